@@ -1,0 +1,4 @@
+// A list of bounded length that needs no heap.
+mod list;
+
+pub use list::Bounded;

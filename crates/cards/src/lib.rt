@@ -1,0 +1,6 @@
+// Cards: tables in a byte image, read in place.
+mod card;
+mod format;
+
+pub use card::Card;
+pub use card::showing::CardSource;

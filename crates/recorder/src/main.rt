@@ -1,0 +1,49 @@
+// The recorder at the command line: loads a card and prints its tables.
+use std::env;
+use std::error::AnyError;
+use std::fs;
+
+mod builtin;
+mod refusals;
+mod tables;
+
+use builtin::SITES_AND_PICKS;
+use cards::Card;
+use cards::CardSource;
+use refusals::refusal_line;
+use sources::Source;
+use tables::table_text;
+
+fn main(rt: LibcRuntime) -> Result<(), AnyError> {
+    rt.report(run(&rt))
+}
+
+fn run(rt: &LibcRuntime) -> Result<(), AnyError> {
+    let words: Vec<String> = env::args(rt)?.collect(rt.alloc())?;
+    match words.as_slice() {
+        [] | [_] => show_card(rt, "the built-in card", &SITES_AND_PICKS),
+        [_, path] => {
+            let image = fs::read(rt, path.as_str())?;
+            show_card(rt, path.as_str(), image.as_slice())
+        }
+        _ => Err("usage: recorder [IMAGE]".into()),
+    }
+}
+
+// Loads an image, prints each of its tables, and last what the read meter says.
+fn show_card(rt: &LibcRuntime, name: &str, image: &[u8]) -> Result<(), AnyError> {
+    let size = image.len();
+    println!(rt, "Loading {name}, {size} bytes.")?;
+    let mut card = Card::empty();
+    if let Err(fault) = card.load(image) {
+        rt.println(refusal_line(rt.alloc(), fault)?)?;
+        return Err("the image was refused".into());
+    }
+    println!(rt, "Loaded. An absent cell is shown as -.")?;
+    for table in 1..17u8 {
+        rt.print(table_text(rt.alloc(), &mut card, table)?)?;
+    }
+    let meter = card.meter();
+    println!(rt, "\nEvery row was fetched once; the read meter stands at {meter}.")?;
+    Ok(())
+}

@@ -1,0 +1,19 @@
+// A table's head: what is said of a table beside its cells.
+ghost use mathlib.Core.Path.{_≡_};
+ghost use Rattle.sources.specs.Heads.{number-and-columns-in-range};
+
+// A table over a list of cells: its number and its columns, the index of its first cell, and how many rows it has.
+#[derive(Clone, Copy, PartialEq, Eq, Debug)]
+pub struct TableHead {
+    pub number: u8,
+    pub columns: u8,
+    pub first: usize,
+    pub rows: usize,
+}
+
+// Whether a table may have this number and so many columns.
+pub fn head_in_range(number: u8, columns: u8) -> bool
+    ensures { λ r. ⌜ r ≡ number-and-columns-in-range number columns ⌝ }
+{
+    1 <= number && number <= 16 && 1 <= columns && columns <= 6
+}

@@ -1,0 +1,11 @@
+// Table sources: what the engine asks of whatever holds the recorder's tables, and the bench, a source over plain cells.
+mod bench;
+mod head;
+mod source;
+
+pub use bench::Bench;
+pub use bench::showing::BenchSource;
+pub use head::TableHead;
+pub use head::head_in_range;
+pub use source::Shape;
+pub use source::Source;

@@ -1,0 +1,3 @@
+pub mod Everys
+pub mod Loops
+pub mod Taken
