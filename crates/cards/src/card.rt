@@ -5,6 +5,8 @@ ghost use Rattle.cards.specs.Verdicts.{card-takes};
 mod loading;
 mod reading;
 pub(crate) mod showing;
+#[cfg(test)]
+mod tests;
 
 // A card: an image of table records that is lent, and the meter of the rows read from it. Every card that exists has an
 // image whose records all passed the load, so no call checks a record again.

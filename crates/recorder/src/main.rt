@@ -40,10 +40,13 @@ fn show_card(rt: &LibcRuntime, name: &str, image: &[u8]) -> Result<(), AnyError>
         return Err("the image was refused".into());
     }
     println!(rt, "Loaded. An absent cell is shown as -.")?;
-    for table in 1..17u8 {
+    for table in 1..=16u8 {
         rt.print(table_text(rt.alloc(), &mut card, table)?)?;
     }
     let meter = card.meter();
-    println!(rt, "\nEvery row was fetched once; the read meter stands at {meter}.")?;
+    println!(
+        rt,
+        "\nEvery row was fetched once; the read meter stands at {meter}."
+    )?;
     Ok(())
 }

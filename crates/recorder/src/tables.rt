@@ -8,7 +8,11 @@ use terms::MAX_COLUMNS;
 type FetchedRow = Option<[Cell; MAX_COLUMNS]>;
 
 // A table with its heading, each row fetched once; nothing where no table has the number.
-pub(crate) fn table_text<S: Source>(heap: Global, source: &mut S, table: u8) -> Result<String, AllocError> {
+pub(crate) fn table_text<S: Source>(
+    heap: Global,
+    source: &mut S,
+    table: u8,
+) -> Result<String, AllocError> {
     let Some(shape) = source.shape(table) else {
         return Ok(String::new(heap));
     };
@@ -25,7 +29,12 @@ pub(crate) fn table_text<S: Source>(heap: Global, source: &mut S, table: u8) -> 
 }
 
 // The rows of a table; None for one that is unreadable.
-fn fetch_rows<S: Source>(heap: Global, source: &mut S, table: u8, rows: usize) -> Result<Vec<FetchedRow>, AllocError> {
+fn fetch_rows<S: Source>(
+    heap: Global,
+    source: &mut S,
+    table: u8,
+    rows: usize,
+) -> Result<Vec<FetchedRow>, AllocError> {
     let mut fetched = Vec::new(heap);
     for row in 0..rows {
         let mut place = [None; MAX_COLUMNS];
@@ -50,7 +59,12 @@ fn column_widths(heap: Global, rows: &[FetchedRow]) -> Result<[usize; MAX_COLUMN
     Ok(widths)
 }
 
-fn push_heading(heap: Global, text: &mut String, columns: u8, widths: &[usize; MAX_COLUMNS]) -> Result<(), AllocError> {
+fn push_heading(
+    heap: Global,
+    text: &mut String,
+    columns: u8,
+    widths: &[usize; MAX_COLUMNS],
+) -> Result<(), AllocError> {
     let mut column = 0u8;
     for width in widths.iter().take(columns as usize) {
         column = column.saturating_add(1);
@@ -60,7 +74,13 @@ fn push_heading(heap: Global, text: &mut String, columns: u8, widths: &[usize; M
     text.push('\n')
 }
 
-fn push_row(heap: Global, text: &mut String, row: FetchedRow, columns: u8, widths: &[usize; MAX_COLUMNS]) -> Result<(), AllocError> {
+fn push_row(
+    heap: Global,
+    text: &mut String,
+    row: FetchedRow,
+    columns: u8,
+    widths: &[usize; MAX_COLUMNS],
+) -> Result<(), AllocError> {
     match row {
         Some(cells) => {
             for (cell, width) in cells.iter().zip(widths).take(columns as usize) {

@@ -8,6 +8,8 @@ use terms::Cell;
 
 mod loading;
 pub(crate) mod showing;
+#[cfg(test)]
+mod tests;
 
 // Table heads over a list of cells, both lent; all rows are readable. Every bench that exists has heads that all passed
 // the load, so no call checks one again.

@@ -2,7 +2,6 @@
 ghost use mathlib.Core.Path.{_≡_};
 ghost use Rattle.terms.specs.Faults.{layer-number, told, at-place, refused-at, of-row};
 ghost use Rattle.std.specs.declared.result.Result.the-variants.{Ok, Err};
-
 use crate::refusals::Refusal;
 use crate::refusals::RefusalDebug;
 use crate::refusals::RefusalPartialEq;
