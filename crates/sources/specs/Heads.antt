@@ -10,13 +10,11 @@ use Rattle.std.specs.declared.result.Result.the-variants.{Ok, Err}
 use Rattle.terms.specs.declared.refusals.Refusal.{Refusal}
 use Rattle.terms.specs.declared.refusals.Refusal.the-variants.{BadTableHead, BadRowCount}
 use Rattle.terms.specs.Cells.{Cell, Row}
-use Rattle.terms.specs.Numbered.{within}
-use Rattle.terms.specs.Tables.{Table}
+use Rattle.terms.specs.Tables.{Table, is-table, is-column}
 use Rattle.sources.specs.declared.head.TableHead.{TableHead}
 
--- tables have the numbers 1 to 16, and 1 to 6 columns
 abbrev pub number-and-columns-in-range : ℕ → ℕ → Bool
-number-and-columns-in-range number columns = within 1 number 16 && within 1 columns 6
+number-and-columns-in-range number columns = is-table number && is-column columns
 
 -- why a head over so many cells is refused: its number and columns first, then its rows
 abbrev pub head-verdict : ℕ → TableHead → Result (Unit {0}) Refusal

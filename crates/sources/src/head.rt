@@ -1,6 +1,8 @@
 // A table's head: what is said of a table beside its cells.
 ghost use mathlib.Core.Path.{_≡_};
 ghost use Rattle.sources.specs.Heads.{number-and-columns-in-range};
+use terms::is_column;
+use terms::is_table;
 
 // A table over a list of cells: its number and its columns, the index of its first cell, and how many rows it has.
 #[derive(Clone, Copy, PartialEq, Eq, Debug)]
@@ -15,5 +17,5 @@ pub struct TableHead {
 pub fn head_in_range(number: u8, columns: u8) -> bool
     ensures { λ r. ⌜ r ≡ number-and-columns-in-range number columns ⌝ }
 {
-    1 <= number && number <= 16 && 1 <= columns && columns <= 6
+    is_table(number) && is_column(columns)
 }

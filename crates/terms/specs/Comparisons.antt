@@ -26,6 +26,15 @@ comparisons = Equal ∷ (NotEqual ∷ (Less ∷ (LessOrEqual ∷ (Greater ∷ (G
 abbrev pub comparison-numbered : ℕ → Option Comparison
 comparison-numbered n = numbered comparison-number comparisons n
 
+-- the comparison with its sides exchanged
+abbrev pub mirrored : Comparison → Comparison
+mirrored Equal = Equal
+mirrored NotEqual = NotEqual
+mirrored Less = Greater
+mirrored LessOrEqual = GreaterOrEqual
+mirrored Greater = Less
+mirrored GreaterOrEqual = LessOrEqual
+
 -- whether two numbers compare so
 abbrev pub ordered : Comparison → ℤ → ℤ → Bool
 ordered Equal x y = same-number x y

@@ -40,6 +40,10 @@ abbrev pub told : Result (Unit {0}) Fault → ℕ
 told (Ok _) = 0
 told (Err fault) = refusal-number (fault .refusal)
 
+-- what the sheet tells: the current block
+abbrev pub on-sheet : Refusal → ℕ → Fault
+on-sheet refusal block = record { refusal = refusal; layer = Sheet; block = block; table = 0; row = 0; place = 0 }
+
 -- what loading and writing tell: the place alone
 abbrev pub at-place : Refusal → ℕ → Fault
 at-place refusal place = record { refusal = refusal; layer = Source; block = 0; table = 0; row = 0; place = place }

@@ -8,8 +8,15 @@ use Rattle.std.specs.Finite.{nth}
 use Rattle.std.specs.shelf.Lists.{All}
 use Rattle.std.specs.declared.option.Option.{Option}
 use Rattle.std.specs.declared.option.Option.the-variants.{Some, None}
-use Rattle.terms.specs.Numbered.{numbered}
+use Rattle.terms.specs.Numbered.{numbered, within}
 use Rattle.terms.specs.Cells.{Cell, Row, cell-in-range, every}
+
+-- tables have the numbers 1 to 16, and at most 6 columns, which count from 1
+abbrev pub is-table : ℕ → Bool
+is-table n = within 1 n 16
+
+abbrev pub is-column : ℕ → Bool
+is-column n = within 1 n 6
 
 -- a row as a table stores it: None where it is unreadable
 abbrev pub Stored : Type 0
@@ -46,7 +53,7 @@ TableFormed (Some t) = Formed t
 abbrev pub counting : {X : Type 0} → (X → ℕ) → List X → ℕ → Option X
 counting number tables n = numbered number tables n
 
--- tables have the numbers 1 to 16, 1 to 6 columns and at most 1,024 rows
+-- what every source shows
 pub record WellFormed (tables : Tables) : Type 0 where
   pub none-at-zero : tables 0 ≡ None
   pub none-above : (n : ℕ) → 16 < n → tables n ≡ None

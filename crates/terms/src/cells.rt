@@ -5,12 +5,6 @@ ghost use Rattle.terms.specs.Cells.{same};
 // A table's cell: absent, which is SQL's NULL, or a whole number in the range that `in-range` of specs/Cells.antt states.
 pub type Cell = Option<i32>;
 
-// A table has at most so many columns, and a fetched row has so many cells.
-pub const MAX_COLUMNS: usize = 6;
-
-// A table has at most so many rows.
-pub const MAX_ROWS: usize = 1_024;
-
 // A cell of the memory that is lent for a run: absent, or a number of 64 bits, which holds a table's cell and an
 // aggregate's answer alike.
 #[derive(Clone, Copy, PartialEq, Eq, Debug)]

@@ -1,6 +1,6 @@
 // The six comparisons of SQL.
 ghost use mathlib.Core.Path.{_≡_};
-ghost use Rattle.terms.specs.Comparisons.{comparison-number, comparison-numbered, ordered, holds};
+ghost use Rattle.terms.specs.Comparisons.{comparison-number, comparison-numbered, mirrored, ordered, holds};
 
 #[derive(Clone, Copy, PartialEq, Eq, Debug)]
 pub enum Comparison {
@@ -31,6 +31,20 @@ impl Comparison {
             5 => Some(Comparison::Greater),
             6 => Some(Comparison::GreaterOrEqual),
             _ => None,
+        }
+    }
+
+    // The comparison with its sides exchanged.
+    pub fn mirrored(self) -> Comparison
+        ensures { λ r. ⌜ r ≡ mirrored self ⌝ }
+    {
+        match self {
+            Comparison::Equal => Comparison::Equal,
+            Comparison::NotEqual => Comparison::NotEqual,
+            Comparison::Less => Comparison::Greater,
+            Comparison::LessOrEqual => Comparison::GreaterOrEqual,
+            Comparison::Greater => Comparison::Less,
+            Comparison::GreaterOrEqual => Comparison::LessOrEqual,
         }
     }
 

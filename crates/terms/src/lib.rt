@@ -2,11 +2,10 @@
 mod cells;
 mod comparisons;
 mod faults;
+mod limits;
 mod refusals;
 
 pub use cells::Cell;
-pub use cells::MAX_COLUMNS;
-pub use cells::MAX_ROWS;
 pub use cells::WorkCell;
 pub use cells::WorkCellDebug;
 pub use cells::WorkCellPartialEq;
@@ -20,6 +19,10 @@ pub use faults::FaultPartialEq;
 pub use faults::Layer;
 pub use faults::LayerDebug;
 pub use faults::LayerPartialEq;
+pub use limits::MAX_COLUMNS;
+pub use limits::MAX_ROWS;
+pub use limits::is_column;
+pub use limits::is_table;
 pub use refusals::Refusal;
 pub use refusals::RefusalDebug;
 pub use refusals::RefusalPartialEq;

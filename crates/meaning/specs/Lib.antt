@@ -1,0 +1,9 @@
+pub mod Rows
+pub mod Aggregates
+pub mod Queries
+pub mod Spelling
+pub mod Plans
+pub mod Running
+pub mod Reading
+pub mod Statements
+pub mod Examples
