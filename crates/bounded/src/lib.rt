@@ -2,3 +2,4 @@
 mod list;
 
 pub use list::Bounded;
+pub use list::methods::BoundedClone;

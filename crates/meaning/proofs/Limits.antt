@@ -44,7 +44,7 @@ not-over q (Some p) part e =
     let both = chosen (all-by-equality p) (over-limit q p) (nothing-selected q p) p part e in
     ap (over-limit q) (sym (both .1)) ∙ both .0
 
-taken-not-over : (s : Spelled) (e : Entry) (part : Part) → verdict s e ≡ Ok part → over-limit (s .query) part ≡ false
+pub taken-not-over : (s : Spelled) (e : Entry) (part : Part) → verdict s e ≡ Ok part → over-limit (s .query) part ≡ false
 taken-not-over s e part h = go (in-turn s e) h
   where
     go : (t : Bool) → cond t (verdict-on (s .query) (read e)) (Err OutOfTurn) ≡ Ok part → over-limit (s .query) part ≡ false

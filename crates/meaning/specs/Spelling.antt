@@ -144,6 +144,12 @@ sheet-answer s e = answer-by s (verdict s e)
 
 -- What a taken entry does to the query.
 
+abbrev pub fresh-query : ℕ → Query
+fresh-query table = record { table = table; tests = []; inner = []; outputs = [] }
+
+abbrev pub fresh-inner : Nest → ℕ → Inner
+fresh-inner nest table = record { nest = nest; table = table; tests = []; links = [] }
+
 abbrev pub with-test : Test → Inner → Inner
 with-test t b = record { nest = b .nest; table = b .table; tests = b .tests ++ (t ∷ []); links = b .links }
 
@@ -162,12 +168,12 @@ abbrev pub with-part : Query → Part → Query
 with-part q (Outermost table) = q
 with-part q (Tested test) = add-test test q (q .inner)
 with-part q (Linked link) = with-inner q (revised (with-link link) (q .inner))
-with-part q (Nested nest table) = with-inner q (q .inner ++ (record { nest = nest; table = table; tests = []; links = [] } ∷ []))
+with-part q (Nested nest table) = with-inner q (q .inner ++ (fresh-inner nest table ∷ []))
 with-part q (Selected column) = record { table = q .table; tests = q .tests; inner = q .inner; outputs = q .outputs ++ (column ∷ []) }
 with-part q Finished = q
 
 abbrev pub opened : Part → Option Query
-opened (Outermost table) = Some (record { table = table; tests = []; inner = []; outputs = [] })
+opened (Outermost table) = Some (fresh-query table)
 opened (Tested test) = None
 opened (Linked link) = None
 opened (Nested nest table) = None

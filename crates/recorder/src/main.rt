@@ -4,13 +4,19 @@ use std::error::AnyError;
 use std::fs;
 
 mod builtin;
+mod entering;
 mod refusals;
 mod tables;
 
 use builtin::SITES_AND_PICKS;
 use cards::Card;
 use cards::CardSource;
+use entering::QUOTA_MET;
+use entering::entry_text;
+use entering::sheet_text;
+use refusals::answer_text;
 use refusals::refusal_line;
+use sheets::Sheet;
 use sources::Source;
 use tables::table_text;
 
@@ -21,7 +27,10 @@ fn main(rt: LibcRuntime) -> Result<(), AnyError> {
 fn run(rt: &LibcRuntime) -> Result<(), AnyError> {
     let words: Vec<String> = env::args(rt)?.collect(rt.alloc())?;
     match words.as_slice() {
-        [] | [_] => show_card(rt, "the built-in card", &SITES_AND_PICKS),
+        [] | [_] => {
+            show_card(rt, "the built-in card", &SITES_AND_PICKS)?;
+            show_sheet(rt)
+        }
         [_, path] => {
             let image = fs::read(rt, path.as_str())?;
             show_card(rt, path.as_str(), image.as_slice())
@@ -48,5 +57,25 @@ fn show_card(rt: &LibcRuntime, name: &str, image: &[u8]) -> Result<(), AnyError>
         rt,
         "\nEvery row was fetched once; the read meter stands at {meter}."
     )?;
+    Ok(())
+}
+
+// Enters a query step by step, and prints what each step answers and what the sheet then holds.
+fn show_sheet(rt: &LibcRuntime) -> Result<(), AnyError> {
+    println!(
+        rt,
+        "\nEntering the sites whose quota equals the number of their picks:"
+    )?;
+    let mut sheet = Sheet::fresh();
+    for entry in QUOTA_MET {
+        let given = entry_text(rt.alloc(), entry)?;
+        let answer = answer_text(rt.alloc(), sheet.enter(entry))?;
+        println!(rt, "  {given}: {answer}")?;
+    }
+    println!(
+        rt,
+        "The sheet, where Cn is a column, Pn a column of the parent and Tn a table:"
+    )?;
+    rt.print(sheet_text(rt.alloc(), &sheet)?)?;
     Ok(())
 }

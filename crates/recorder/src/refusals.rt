@@ -11,6 +11,18 @@ pub(crate) fn refusal_line(heap: Global, fault: Fault) -> Result<String, AllocEr
     format!(heap, "Refused by {number}: {meaning} (byte {place}).")
 }
 
+// The answer to an entry.
+pub(crate) fn answer_text(heap: Global, answer: Result<(), Fault>) -> Result<String, AllocError> {
+    match answer {
+        Ok(()) => String::from_str(heap, "taken"),
+        Err(fault) => {
+            let number = fault.refusal.number();
+            let block = fault.block;
+            format!(heap, "declined by {number} in block {block}")
+        }
+    }
+}
+
 // What a load's refusal means. No load gives another one.
 fn load_meaning(refusal: Refusal) -> &'static str {
     match refusal {

@@ -1,6 +1,6 @@
 // Why a call is refused, and where.
 ghost use mathlib.Core.Path.{_≡_};
-ghost use Rattle.terms.specs.Faults.{layer-number, told, at-place, refused-at, of-row};
+ghost use Rattle.terms.specs.Faults.{layer-number, told, on-sheet, at-place, refused-at, of-row};
 ghost use Rattle.std.specs.declared.result.Result.the-variants.{Ok, Err};
 use crate::refusals::Refusal;
 use crate::refusals::RefusalDebug;
@@ -35,6 +35,20 @@ impl Layer {
 }
 
 impl Fault {
+    // The fault of an entry on a sheet: the sheet's layer, and the current block.
+    pub fn on_sheet(refusal: Refusal, block: u8) -> Fault
+        ensures { λ r. ⌜ r ≡ on-sheet refusal block ⌝ }
+    {
+        Fault {
+            refusal,
+            layer: Layer::Sheet,
+            block,
+            table: 0,
+            row: 0,
+            place: 0,
+        }
+    }
+
     // The fault of loading or writing: the source's layer, and the place alone.
     pub fn at_place(refusal: Refusal, place: usize) -> Fault
         ensures { λ r. ⌜ r ≡ at-place refusal place ⌝ }
