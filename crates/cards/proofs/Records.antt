@@ -92,7 +92,7 @@ past-end place size kind bs tail k h =
     let short : ltb (length (take (size-at bs) (drop 4 bs))) (size-at bs) ≡ true = lt-ltb _ _ (rw length-take (omega (arith, k .sized))) in
     ap records-verdict (left-next place bs (k .long)) ∙ rw short
 
-next-verdict : (place size kind : ℕ) (bs payload next : List ℕ) → Turn bs size kind payload next → records-verdict (left place bs) ≡ refused-at (payload-verdict kind payload) place (records-verdict (left (place + (4 + size)) next))
+pub next-verdict : (place size kind : ℕ) (bs payload next : List ℕ) → Turn bs size kind payload next → records-verdict (left place bs) ≡ refused-at (payload-verdict kind payload) place (records-verdict (left (place + (4 + size)) next))
 next-verdict place size kind bs payload next t =
     let whole : ltb (length payload) size ≡ false = le-ltb _ _ (rw (t .front, length-take) (omega (arith, t .fits))) in
     ap records-verdict (turn-left place size kind bs payload next t) ∙ rw whole

@@ -54,7 +54,7 @@ pub(crate) fn record_head(bytes: &[u8]) -> Option<RecordHead<'_>>
 }
 
 // The bytes of one row.
-pub(crate) fn row_width(columns: u8) -> usize
+pub fn row_width(columns: u8) -> usize
     ensures { λ r. ⌜ r ≡ row-width columns ⌝ }
 {
     1 + 4 * columns as usize

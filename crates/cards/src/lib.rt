@@ -4,3 +4,4 @@ mod format;
 
 pub use card::Card;
 pub use card::showing::CardSource;
+pub use format::row_width;

@@ -7,6 +7,7 @@ use native.Mathlib.Nat.{suc-mul}
 use native.Mathlib.Omega.{arith}
 use lib.Dec.{eqb, leb}
 use lib.ListN.{length, take, drop, length-take, length-drop}
+use Rattle.std.proofs.shelf.Elements.{all-map}
 use Rattle.std.proofs.shelf.Lists.{length-map}
 use Rattle.std.proofs.shelf.Tests.{and-parts, leb-true, eqb-true}
 use Rattle.std.specs.Options.{mapped}
@@ -16,7 +17,7 @@ use Rattle.std.specs.declared.option.Option.{Option}
 use Rattle.std.specs.declared.option.Option.the-variants.{Some, None}
 use Rattle.terms.specs.Cells.{Cell, cell-in-range, every}
 use Rattle.terms.specs.Numbered.{within}
-use Rattle.terms.specs.Tables.{Table, RowFormed, Formed, TableFormed, WellFormed}
+use Rattle.terms.specs.Tables.{Filled, RowFormed, Formed, TableFormed, WellFormed}
 use Rattle.terms.proofs.Everys.{every-take, every-drop}
 use Rattle.terms.proofs.Taken.{taken-at, taken-then, between}
 use Rattle.sources.specs.declared.head.TableHead.{TableHead}
@@ -32,7 +33,7 @@ pub record Sound (len n : ℕ) (h : TableHead) : Type 0 where
   pub few-rows : h .rows ≤ 1024
   pub inside : h .first + h .rows * h .columns ≤ len
 
-sound-head : (len n : ℕ) (h : TableHead) → isOk (head-verdict len h) ≡ true → h .number ≡ n → Sound len n h
+pub sound-head : (len n : ℕ) (h : TableHead) → isOk (head-verdict len h) ≡ true → h .number ≡ n → Sound len n h
 sound-head len n h e m =
     let outer = taken-then (number-and-columns-in-range (h .number) (h .columns)) _ _ e in
     let inner = taken-then (leb (h .rows) 1024 && leb (h .first + h .rows * h .columns) len) _ _ (outer .1) in
@@ -63,12 +64,12 @@ sound-in len at n (x ∷ hs) h e f =
 pub sound-for : (heads : List TableHead) (cells : List Cell) (n : ℕ) (h : TableHead) → bench-takes heads cells ≡ true → head-for heads n ≡ Some h → Sound (length cells) n h
 sound-for heads cells n h e f = sound-in (length cells) 0 n heads h e f
 
-rows-formed : (n columns : ℕ) (cells : List Cell) → n * columns ≤ length cells → every cell-in-range cells ≡ true → All (RowFormed columns) (map Some (rows-in n columns cells))
-rows-formed zero columns cells h e = tt
-rows-formed (suc n) columns cells h e =
+pub rows-filled : (n columns : ℕ) (cells : List Cell) → n * columns ≤ length cells → every cell-in-range cells ≡ true → All (Filled columns) (rows-in n columns cells)
+rows-filled zero columns cells h e = tt
+rows-filled (suc n) columns cells h e =
     let total = suc-mul n columns in (
       record { wide = simp length-take (omega arith); ranged = every-take cell-in-range columns cells e },
-      rows-formed n columns (drop columns cells) (simp length-drop (omega arith)) (every-drop cell-in-range columns cells e),
+      rows-filled n columns (drop columns cells) (simp length-drop (omega arith)) (every-drop cell-in-range columns cells e),
     )
 
 pub length-rows : (n columns : ℕ) (cells : List Cell) → length (rows-in n columns cells) ≡ n
@@ -80,7 +81,7 @@ table-formed cells n h s e = record {
   some-column = s .some-column;
   few-columns = s .few-columns;
   few-rows = simp (length-map, length-rows) (s .few-rows);
-  each-row = rows-formed (h .rows) (h .columns) (drop (h .first) cells) (simp length-drop (omega (arith, s .inside))) (every-drop cell-in-range (h .first) cells e);
+  each-row = all-map (RowFormed (h .columns)) Some (head-rows cells h) (rows-filled (h .rows) (h .columns) (drop (h .first) cells) (simp length-drop (omega (arith, s .inside))) (every-drop cell-in-range (h .first) cells e));
 }
 
 module _ (heads : List TableHead) (cells : List Cell) (taken : bench-takes heads cells ≡ true) (ranged : every cell-in-range cells ≡ true) where

@@ -1,18 +1,14 @@
 // Filling a bench.
 ghost use mathlib.Core.Path.{_≡_};
-ghost use mathlib.Core.Bool.{true, cond};
+ghost use mathlib.Core.Bool.{cond};
 ghost use mathlib.Core.List.{[]};
 ghost use Rattle.std.specs.Results.{isOk};
-ghost use Rattle.terms.specs.Cells.{cell-in-range, every};
-ghost use Rattle.sources.specs.Heads.{head-verdict};
 ghost use Rattle.sources.specs.Benches.{heads-verdict, bench-verdict};
 use crate::bench::Bench;
 use crate::head::TableHead;
-use crate::head::head_in_range;
+use crate::ranges::check_range;
 use terms::Cell;
 use terms::Fault;
-use terms::MAX_ROWS;
-use terms::Refusal;
 
 impl<'a> Bench<'a> {
     // A bench with no table, whose meter stands at 0.
@@ -46,41 +42,11 @@ impl<'a> Bench<'a> {
     }
 }
 
-fn check_head(head: TableHead, len: usize) -> Result<(), Refusal>
-    ensures { λ r. ⌜ r ≡ head-verdict len head ⌝ }
-{
-    if !head_in_range(head.number, head.columns) {
-        return Err(Refusal::BadTableHead);
-    }
-    if head.rows > MAX_ROWS
-        || head.first > len
-        || head.rows * head.columns as usize > len - head.first
-    {
-        return Err(Refusal::BadRowCount);
-    }
-    Ok(())
-}
-
 fn check_heads(heads: &[TableHead], len: usize) -> Result<(), Fault>
     ensures { λ r. ⌜ r ≡ heads-verdict len 0 (now (heads .entry)) ⌝ }
 {
     for (at, head) in heads.iter().enumerate() {
-        Fault::placed(check_head(*head, len), at)?;
+        Fault::placed(head.check(len), at)?;
     }
     Ok(())
-}
-
-// A number's type keeps it in a cell's range. A proof learns that of a number that the code holds, so each is taken out.
-fn check_range(cells: &[Cell])
-    ensures { λ _. ⌜ every cell-in-range (now (cells .entry)) ≡ true ⌝ }
-{
-    for cell in cells {
-        check_cell(*cell);
-    }
-}
-
-fn check_cell(cell: Cell)
-    ensures { λ _. ⌜ cell-in-range cell ≡ true ⌝ }
-{
-    if let Some(_number) = cell {}
 }

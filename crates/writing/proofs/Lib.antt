@@ -1,0 +1,5 @@
+pub mod Marks
+pub mod Puts
+pub mod Back
+pub mod Loads
+pub mod Writes
