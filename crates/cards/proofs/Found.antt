@@ -9,6 +9,7 @@ use native.Mathlib.Omega.{arith}
 use lib.Dec.{ltb, eqb}
 use lib.ListN.{length, drop, take, getD, length-take, length-drop}
 use Rattle.std.proofs.shelf.Bits.{mul-le}
+use lib.Seq.{take-add}
 use Rattle.std.proofs.shelf.Lists.{drop-drop}
 use Rattle.std.proofs.shelf.Maps.{nth-past}
 use Rattle.std.proofs.shelf.Tests.{cases-lt, true≢false}
@@ -36,21 +37,29 @@ pub turn-passed : (place size kind : ℕ) (bs payload next : List ℕ) → Turn 
 turn-passed place size kind bs payload next t e = taken-at _ place _ (sym (ap (λ rs. isOk (records-verdict rs)) (turn-left place size kind bs payload next t)) ∙ e) .1
 
 -- the table is in the record at hand, or it is not
-pub table-here : (n place size kind : ℕ) (bs payload next : List ℕ) (f : RawTable) → Turn bs size kind payload next → Some f ≡ table-for (table-in kind payload) n → Some f ≡ table-for (tables-in (left place bs)) n
-table-here n place size kind bs payload next f t e =
-    sym (numbered-in-front (λ x. x .number) n (table-in kind payload) (tables-in (left (place + (4 + size)) next)) f (sym e))
+pub table-here : (n place size kind : ℕ) (bs payload next whole : List ℕ) (f : RawTable) → Turn bs size kind payload next → whole ≡ take 4 bs ++ payload → Some f ≡ table-for (table-in whole kind payload) n → Some f ≡ table-for (tables-in (left place bs)) n
+table-here n place size kind bs payload next whole f t w e =
+    let here : List RawTable = table-in (take 4 bs ++ payload) kind payload in
+    sym (numbered-in-front (λ x. x .number) n here (tables-in (left (place + (4 + size)) next)) f (sym (e ∙ ap (λ x. table-for (table-in x kind payload) n) w)))
     ∙ sym (ap (λ rs. table-for (tables-in rs) n) (turn-left place size kind bs payload next t))
 
-pub table-later : (n place size kind : ℕ) (bs payload next : List ℕ) → Turn bs size kind payload next → None ≡ table-for (table-in kind payload) n → table-for (tables-in (left (place + (4 + size)) next)) n ≡ table-for (tables-in (left place bs)) n
-table-later n place size kind bs payload next t e =
-    sym (numbered-behind (λ x. x .number) n (table-in kind payload) (tables-in (left (place + (4 + size)) next)) (sym e))
+pub table-later : (n place size kind : ℕ) (bs payload next whole : List ℕ) → Turn bs size kind payload next → whole ≡ take 4 bs ++ payload → None ≡ table-for (table-in whole kind payload) n → table-for (tables-in (left (place + (4 + size)) next)) n ≡ table-for (tables-in (left place bs)) n
+table-later n place size kind bs payload next whole t w e =
+    let here : List RawTable = table-in (take 4 bs ++ payload) kind payload in
+    sym (numbered-behind (λ x. x .number) n here (tables-in (left (place + (4 + size)) next)) (sym (e ∙ ap (λ x. table-for (table-in x kind payload) n) w)))
     ∙ sym (ap (λ rs. table-for (tables-in rs) n) (turn-left place size kind bs payload next t))
 
 -- the slice pattern's view of a table's payload
-pub table-in-is : (p : List ℕ) → 2 ≤ length p → table-in-payload p ≡ record { number = getD p 0 0; columns = getD p 1 0; bytes = drop 2 p } ∷ []
-table-in-is [] h = absurd (omega arith)
-table-in-is (a ∷ []) h = absurd (omega arith)
-table-in-is (a ∷ (b ∷ p)) h = refl
+pub table-in-is : (whole p : List ℕ) → 2 ≤ length p → table-in-payload whole p ≡ record { whole = whole; number = getD p 0 0; columns = getD p 1 0; bytes = drop 2 p } ∷ []
+table-in-is whole [] h = absurd (omega arith)
+table-in-is whole (a ∷ []) h = absurd (omega arith)
+table-in-is whole (a ∷ (b ∷ p)) h = refl
+
+-- the record at hand, as the code cuts it out
+pub whole-is : (bs : List ℕ) (size kind : ℕ) (tail payload : List ℕ) → Headed bs size kind tail → payload ≡ take size tail → take ((4 + size) - 0) bs ≡ take 4 bs ++ payload
+whole-is bs size kind tail payload k e =
+    let n : (4 + size) - 0 ≡ 4 + size = omega arith in
+    ap (λ m. take m bs) n ∙ take-add 4 size bs ∙ ap (λ l. take 4 bs ++ l) (sym (e ∙ ap (take size) (k .rest)))
 
 -- Rows.
 

@@ -1,6 +1,6 @@
 -- What a loop over the records of an image needs: one record cut off, and the end.
 use mathlib.Core.Path.{_≡_, refl, sym, ap, _∙_}
-use mathlib.Core.List.{List, [], _∷_}
+use mathlib.Core.List.{List, [], _∷_, _++_}
 use mathlib.Core.Bool.{true, false, cond}
 use mathlib.Core.Logic.{⊎-elim}
 use Prim.Native.Nat.{ℕ, zero, suc, _+_, _*_, _≤_, _<_}
@@ -33,7 +33,7 @@ cut-fuel (suc f) (suc g) place (a ∷ (b ∷ [])) p q = refl
 cut-fuel (suc f) (suc g) place (a ∷ (b ∷ (c ∷ []))) p q = refl
 cut-fuel (suc f) (suc g) place (l0 ∷ (l1 ∷ (k0 ∷ (k1 ∷ rest)))) p q =
     let size : ℕ = l0 + l1 * 256 in
-    ap (λ rs. record { place = place; size = size; kind = k0 + k1 * 256; payload = take size rest } ∷ rs)
+    ap (λ rs. record { place = place; bytes = l0 ∷ (l1 ∷ (k0 ∷ (k1 ∷ take size rest))); size = size; kind = k0 + k1 * 256; payload = take size rest } ∷ rs)
     (cut-fuel f g (place + (4 + size)) (drop size rest) (simp length-drop (omega arith)) (simp length-drop (omega arith)))
 
 -- what is left of an image, and the records in it
@@ -42,7 +42,7 @@ left place bs = cut (length bs) place bs
 
 -- the record that `bs` begins with
 abbrev pub record-at : ℕ → List ℕ → CardRecord
-record-at place bs = record { place = place; size = size-at bs; kind = kind-at bs; payload = take (size-at bs) (drop 4 bs) }
+record-at place bs = record { place = place; bytes = take 4 bs ++ take (size-at bs) (drop 4 bs); size = size-at bs; kind = kind-at bs; payload = take (size-at bs) (drop 4 bs) }
 
 pub left-next : (place : ℕ) (bs : List ℕ) → 4 ≤ length bs → left place bs ≡ record-at place bs ∷ left (place + (4 + size-at bs)) (drop (size-at bs) (drop 4 bs))
 left-next place [] h = absurd (omega arith)
@@ -80,7 +80,7 @@ pub turn-long : (size kind : ℕ) (bs payload next : List ℕ) → Turn bs size 
 turn-long size kind bs payload next t = rw (t .back) (simp length-drop (omega (arith, simp length-drop at (t .fits), t .long)))
 
 -- the records that are left begin with the one at hand
-pub turn-left : (place size kind : ℕ) (bs payload next : List ℕ) → Turn bs size kind payload next → left place bs ≡ record { place = place; size = size; kind = kind; payload = payload } ∷ left (place + (4 + size)) next
+pub turn-left : (place size kind : ℕ) (bs payload next : List ℕ) → Turn bs size kind payload next → left place bs ≡ record { place = place; bytes = take 4 bs ++ payload; size = size; kind = kind; payload = payload } ∷ left (place + (4 + size)) next
 turn-left place size kind bs payload next t = rw (t .front, t .back, t .kinded, t .sized) (left-next place bs (t .long))
 
 -- The verdict on what is left.

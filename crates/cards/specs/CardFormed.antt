@@ -39,17 +39,17 @@ pub record Sound (n : ℕ) (t : RawTable) : Type 0 where
   pub few-rows : row-count (t .columns) (t .bytes) ≤ 1024
   pub right : rows-right (row-count (t .columns) (t .bytes)) (t .columns) (t .bytes) ≡ true
 
-sound-payload : (n : ℕ) (p : List ℕ) (t : RawTable) → isOk (table-verdict p) ≡ true → table-for (table-in-payload p) n ≡ Some t → Sound n t
-sound-payload n [] t w e = absurd (true≢false (sym w))
-sound-payload n (a ∷ []) t w e = absurd (true≢false (sym w))
-sound-payload n (a ∷ (b ∷ bs)) t w e =
+sound-payload : (n : ℕ) (whole p : List ℕ) (t : RawTable) → isOk (table-verdict p) ≡ true → table-for (table-in-payload whole p) n ≡ Some t → Sound n t
+sound-payload n whole [] t w e = absurd (true≢false (sym w))
+sound-payload n whole (a ∷ []) t w e = absurd (true≢false (sym w))
+sound-payload n whole (a ∷ (b ∷ bs)) t w e =
     let head = taken-then (number-and-columns-in-range a b) (rows-verdict b bs) _ w in
     let ranges = and-parts (within 1 a 16) (within 1 b 6) (head .0) in
     let number = between 1 a 16 (ranges .0) in
     let columns = between 1 b 6 (ranges .1) in
     let rows = taken-then (rows-counted b bs) _ _ (head .1) in
     let counted = and-parts (eqb (length bs % row-width b) 0) (leb (row-count b bs) 1024) (rows .0) in
-    let found : RawTable = record { number = a; columns = b; bytes = bs } in
+    let found : RawTable = record { whole = whole; number = a; columns = b; bytes = bs } in
     let sound : a ≡ n → Sound n found =
     λ q. record { number-low = rw q at (number .0); number-high = rw q at (number .1); some-column = columns .0; few-columns = columns .1; whole = eqb-true _ _ (counted .0); few-rows = leb-true _ _ (counted .1); right = taken-then (rows-right (row-count b bs) b bs) (Ok tt) _ (rows .1) .0 } in
     same (eqb a n) refl found e sound
@@ -58,11 +58,11 @@ sound-payload n (a ∷ (b ∷ bs)) t w e =
     same true q f e s = let eq : f ≡ t = cc in subst (Sound n) eq (s (eqb-true a n q))
     same false q f e s = let z : _≡_ {A = ℕ} 0 1 = cc in absurd (omega arith)
 
-sound-kind : (n kind : ℕ) (p : List ℕ) (t : RawTable) → isOk (payload-verdict kind p) ≡ true → table-for (table-in kind p) n ≡ Some t → Sound n t
-sound-kind n kind p t w e = go (eqb kind 1) _ w e
+sound-kind : (n kind : ℕ) (whole p : List ℕ) (t : RawTable) → isOk (payload-verdict kind p) ≡ true → table-for (table-in whole kind p) n ≡ Some t → Sound n t
+sound-kind n kind whole p t w e = go (eqb kind 1) _ w e
   where
-    go : (q : Bool) (other : Result (Unit {0}) Refusal) → isOk (cond q (table-verdict p) other) ≡ true → table-for (cond q (table-in-payload p) []) n ≡ Some t → Sound n t
-    go true other w e = sound-payload n p t w e
+    go : (q : Bool) (other : Result (Unit {0}) Refusal) → isOk (cond q (table-verdict p) other) ≡ true → table-for (cond q (table-in-payload whole p) []) n ≡ Some t → Sound n t
+    go true other w e = sound-payload n whole p t w e
     go false other w e = let z : _≡_ {A = ℕ} 0 1 = cc in absurd (omega arith)
 
 sound-records : (n : ℕ) (rs : List CardRecord) (t : RawTable) → isOk (records-verdict rs) ≡ true → table-for (tables-in rs) n ≡ Some t → Sound n t
@@ -70,13 +70,13 @@ sound-records n [] t w e = let z : _≡_ {A = ℕ} 0 1 = cc in absurd (omega ari
 sound-records n (r ∷ rs) t w e =
     let taken = taken-at (record-verdict r) (r .place) (records-verdict rs) w in
     let whole = taken-else (ltb (length (r .payload)) (r .size)) (payload-verdict (r .kind) (r .payload)) _ (taken .0) in
-    go (table-for (table-in (r .kind) (r .payload)) n) refl (whole .1) (sound-records n rs t (taken .1))
+    go (table-for (table-in (r .bytes) (r .kind) (r .payload)) n) refl (whole .1) (sound-records n rs t (taken .1))
   where
-    go : (o : Option RawTable) → table-for (table-in (r .kind) (r .payload)) n ≡ o → isOk (payload-verdict (r .kind) (r .payload)) ≡ true → (table-for (tables-in rs) n ≡ Some t → Sound n t) → Sound n t
-    go None q ok later = later (sym (numbered-behind (λ x. x .number) n (table-in (r .kind) (r .payload)) (tables-in rs) q) ∙ e)
+    go : (o : Option RawTable) → table-for (table-in (r .bytes) (r .kind) (r .payload)) n ≡ o → isOk (payload-verdict (r .kind) (r .payload)) ≡ true → (table-for (tables-in rs) n ≡ Some t → Sound n t) → Sound n t
+    go None q ok later = later (sym (numbered-behind (λ x. x .number) n (table-in (r .bytes) (r .kind) (r .payload)) (tables-in rs) q) ∙ e)
     go (Some f) q ok later =
-        let same : Some f ≡ Some t = sym (numbered-in-front (λ x. x .number) n (table-in (r .kind) (r .payload)) (tables-in rs) f q) ∙ e in
-        sound-kind n (r .kind) (r .payload) t ok (q ∙ same)
+        let same : Some f ≡ Some t = sym (numbered-in-front (λ x. x .number) n (table-in (r .bytes) (r .kind) (r .payload)) (tables-in rs) f q) ∙ e in
+        sound-kind n (r .kind) (r .bytes) (r .payload) t ok (q ∙ same)
 
 pub records-taken : (image : List ℕ) → card-takes image ≡ true → isOk (records-verdict (records image)) ≡ true
 records-taken image e = taken-else (ltb 65536 (length image)) (records-verdict (records image)) _ e .1

@@ -11,24 +11,25 @@ use Rattle.terms.specs.Tables.{Table, Tables, counting}
 use Rattle.cards.specs.Format.{CardRecord, records, rows-from}
 use Rattle.cards.specs.Verdicts.{row-count}
 
--- a table as it stands in an image: its rows are still bytes
+-- a table as it stands in an image: the bytes of its record, head and payload, and what they say; its rows are still bytes
 pub record RawTable : Type 0 where
+  pub whole : List ℕ
   pub number : ℕ
   pub columns : ℕ
   pub bytes : List ℕ
 
--- the table in a payload, as a list of at most one
-abbrev pub table-in-payload : List ℕ → List RawTable
-table-in-payload [] = []
-table-in-payload (number ∷ []) = []
-table-in-payload (number ∷ (columns ∷ bytes)) = record { number = number; columns = columns; bytes = bytes } ∷ []
+-- the table in the payload of a record, as a list of at most one
+abbrev pub table-in-payload : List ℕ → List ℕ → List RawTable
+table-in-payload whole [] = []
+table-in-payload whole (number ∷ []) = []
+table-in-payload whole (number ∷ (columns ∷ bytes)) = record { whole = whole; number = number; columns = columns; bytes = bytes } ∷ []
 
-abbrev pub table-in : ℕ → List ℕ → List RawTable
-table-in kind payload = cond (eqb kind 1) (table-in-payload payload) []
+abbrev pub table-in : List ℕ → ℕ → List ℕ → List RawTable
+table-in whole kind payload = cond (eqb kind 1) (table-in-payload whole payload) []
 
 -- every table of the records, in order
 abbrev pub tables-in : List CardRecord → List RawTable
-tables-in rs = joined (λ r. table-in (r .kind) (r .payload)) rs
+tables-in rs = joined (λ r. table-in (r .bytes) (r .kind) (r .payload)) rs
 
 -- the one that counts for a number
 abbrev pub table-for : List RawTable → ℕ → Option RawTable

@@ -12,9 +12,11 @@ use Rattle.terms.specs.Tables.{Stored}
 
 -- Records.
 
--- the place of a record's first byte, the length and the kind that its head gives, and as much of its payload as there is
+-- the place of a record's first byte, its bytes as they stand in the image, the length and the kind that its head gives,
+-- and as much of its payload as there is
 pub record CardRecord : Type 0 where
   pub place : ℕ
+  pub bytes : List ℕ
   pub size : ℕ
   pub kind : ℕ
   pub payload : List ℕ
@@ -29,7 +31,7 @@ cut (suc fuel) place (a ∷ (b ∷ [])) = []
 cut (suc fuel) place (a ∷ (b ∷ (c ∷ []))) = []
 cut (suc fuel) place (l0 ∷ (l1 ∷ (k0 ∷ (k1 ∷ rest)))) =
     let size = l0 + l1 * 256 in
-    record { place = place; size = size; kind = k0 + k1 * 256; payload = take size rest } ∷ cut fuel (place + (4 + size)) (drop size rest)
+    record { place = place; bytes = l0 ∷ (l1 ∷ (k0 ∷ (k1 ∷ take size rest))); size = size; kind = k0 + k1 * 256; payload = take size rest } ∷ cut fuel (place + (4 + size)) (drop size rest)
 
 abbrev pub records : List ℕ → List CardRecord
 records image = cut (length image) 0 image

@@ -6,7 +6,7 @@ use Rattle.cards.specs.Format.{row-of}
 use Rattle.cards.specs.CardTables.{RawTable}
 
 abbrev pub as-raw : TableBytes → RawTable
-as-raw t = record { number = t .number; columns = t .columns; bytes = t .bytes .now }
+as-raw t = record { whole = t .whole .now; number = t .number; columns = t .columns; bytes = t .bytes .now }
 
 abbrev pub as-row : RowBytes → Stored
 as-row r = row-of (r .columns) (r .bytes .now)

@@ -15,9 +15,10 @@ pub(crate) struct RecordHead<'a> {
     pub(crate) tail: &'a [u8],
 }
 
-// A table in an image: its number, its columns and the bytes of its rows.
+// A table in an image: its record from the first byte to the last, and in it its number, its columns and its rows.
 #[derive(Clone, Copy)]
 pub(crate) struct TableBytes<'a> {
+    pub(crate) whole: &'a [u8],
     pub(crate) number: u8,
     pub(crate) columns: u8,
     pub(crate) bytes: &'a [u8],

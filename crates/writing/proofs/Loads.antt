@@ -78,12 +78,12 @@ module _ (number columns : ℕ) (rows : List Row) (t : Writable number columns r
   -- the record of a table, loaded, shows that table
   pub loads-back : Shows (table-record number columns rows) number (record { columns = columns; rows = map Some rows })
   loads-back =
-      let found : RawTable = record { number = number; columns = columns; bytes = joined row-bytes rows } in
+      let found : RawTable = record { whole = table-record number columns rows; number = number; columns = columns; bytes = joined row-bytes rows } in
       let e : eqb number number ≡ true = eq-eqb number number refl in
-      let is : Some found ≡ table-for (table-in 1 (number ∷ (columns ∷ joined row-bytes rows))) number = rw e in
+      let is : Some found ≡ table-for (table-in (table-record number columns rows) 1 (number ∷ (columns ∷ joined row-bytes rows))) number = rw e in
       let same : shown found ≡ record { columns = columns; rows = map Some rows } =
       ap (λ rs. record { columns = columns; rows = rs }) (rw count (rows-back columns rows (t .few-columns) (t .each-row) .0)) in
       record {
         taken = ap isOk (sym (verdict-is (table-record number columns rows) (omega (arith, small))) ∙ records-taken);
-        shown = ap (mapped shown) (sym (table-here number 0 _ _ _ _ _ found one-turn is)) ∙ ap Some same;
+        shown = ap (mapped shown) (sym (table-here number 0 _ _ _ _ _ _ found one-turn refl is)) ∙ ap Some same;
       }

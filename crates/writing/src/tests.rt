@@ -1,4 +1,5 @@
 // Writing at the edges of its refusals, and back by a load.
+use crate::record_of;
 use crate::write_table;
 use cards::Card;
 use cards::CardSource;
@@ -103,6 +104,8 @@ fn shows_nine(image: &[u8]) -> Result<(), Fail> {
             rows: 2,
         }),
     )?;
+    check_eq(record_of(&card, 9).is_some(), true)?;
+    check_eq(record_of(&card, 8).is_none(), true)?;
     let mut place = [Some(7); 6];
     check_eq(card.fetch(9, 0, &mut place), Ok(()))?;
     check_eq(

@@ -21,11 +21,12 @@ use terms::Cell;
 use terms::MAX_COLUMNS;
 
 // The table in one record, if it has the number.
-fn table_in(kind: u16, payload: &[u8], number: u8) -> Option<TableBytes<'_>>
-    ensures { λ r. ⌜ mapped as-raw r ≡ table-for (table-in kind (now (payload .entry))) number ⌝ }
+fn table_in<'a>(whole: &'a [u8], kind: u16, payload: &'a [u8], number: u8) -> Option<TableBytes<'a>>
+    ensures { λ r. ⌜ mapped as-raw r ≡ table-for (table-in (now (whole .entry)) kind (now (payload .entry))) number ⌝ }
 {
     match payload {
         [n, columns, bytes @ ..] if kind == 1 && *n == number => Some(TableBytes {
+            whole,
             number: *n,
             columns: *columns,
             bytes,
@@ -43,7 +44,8 @@ pub(crate) fn find_table(image: &[u8], number: u8) -> Option<TableBytes<'_>>
     let mut rest = image;
     while let Some(head) = record_head(rest) {
         let (payload, next) = head.tail.split_at(head.size);
-        if let Some(table) = table_in(head.kind, payload, number) {
+        let whole = &rest[0..4 + head.size];
+        if let Some(table) = table_in(whole, head.kind, payload, number) {
             return Some(table);
         }
         rest = next;

@@ -1,6 +1,8 @@
 // The card as a source.
 ghost use denote.Ref.{now};
-ghost use Rattle.cards.specs.CardTables.{card-tables};
+ghost use mathlib.Core.Path.{_≡_};
+ghost use Rattle.std.specs.Options.{mapped};
+ghost use Rattle.cards.specs.CardTables.{card-tables, raw-table};
 ghost use Rattle.cards.specs.CardFormed.{card-formed};
 use crate::card::Card;
 use crate::card::reading::find_row;
@@ -50,5 +52,17 @@ pub impl<'a> Source for Card<'a> as CardSource {
 
     fn meter(&self) -> u64 {
         self.meter
+    }
+}
+
+impl<'a> Card<'a> {
+    // The record that counts for a table's number, head and payload, as it stands in the image.
+    pub fn record_of(&self, table: u8) -> Option<&'a [u8]>
+        ensures { λ r. ⌜ mapped (λ bytes. now bytes) r ≡ mapped (λ t. t .whole) (raw-table (now (now (self .entry) .image)) table) ⌝ }
+    {
+        let Some(found) = find_table(self.image, table) else {
+            return None;
+        };
+        Some(found.whole)
     }
 }

@@ -3,7 +3,7 @@ use Prim.Native.Nat.{_+_}
 use Rattle.cards.specs.CardTables.{tables-in, table-for}
 use Rattle.cards.specs.CardFormed.{records-taken, sound-table}
 use Rattle.cards.proofs.Records.{turn, left-end}
-use Rattle.cards.proofs.Found.{whole-record, turn-passed, table-here, table-later}
+use Rattle.cards.proofs.Found.{whole-record, turn-passed, whole-is, table-here, table-later}
 use Rattle.cards.proofs.card.reading.find_table.Needs as need
 
 pub loop-head-holds : need.loop-head-holds
@@ -19,7 +19,7 @@ loop-head-again c =
     let t = turn _ _ _ _ _ _ k (whole-record place _ _ _ _ k (c .loop-head .inv .1)) (c .split-at .ensures .front) (c .split-at .ensures .back) in (
       place + (4 + c .in-Some .head .size),
       turn-passed place _ _ _ _ _ t (c .loop-head .inv .1),
-      table-later (c .args .number) place _ _ _ _ _ t (c .in-rest-table-in .ensures tt) ∙ c .loop-head .inv .2,
+      table-later (c .args .number) place _ _ _ _ _ _ t (whole-is _ _ _ _ _ k (c .split-at .ensures .front)) (c .in-rest-table-in .ensures tt) ∙ c .loop-head .inv .2,
     )
 
 pub returns : need.returns
@@ -31,5 +31,5 @@ returns-in-Some-table-in c =
     let place = c .loop-head .inv .0 in
     let k = c .in-Some .ensures tt in
     let t = turn _ _ _ _ _ _ k (whole-record place _ _ _ _ k (c .loop-head .inv .1)) (c .split-at .ensures .front) (c .split-at .ensures .back) in
-    let table = table-here (c .args .number) place _ _ _ _ _ _ t (c .in-Some-table-in .ensures tt) ∙ c .loop-head .inv .2 in
+    let table = table-here (c .args .number) place _ _ _ _ _ _ _ t (whole-is _ _ _ _ _ k (c .split-at .ensures .front)) (c .in-Some-table-in .ensures tt) ∙ c .loop-head .inv .2 in
     record { table = table; sound = sound-table (c .args .image .now) (c .args .number) _ (c .pre) (sym table) }

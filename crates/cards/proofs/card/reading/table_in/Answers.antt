@@ -13,4 +13,4 @@ returns-in-len2-up c =
     let long : 2 ≤ length p = search needs in
     let kind = eq-eqb _ _ (c .if-kind-eq1 .taken) in
     let number = eq-eqb _ _ (c .if-n-number .taken) in
-    rw (take-rest, kind, table-in-is p long, number)
+    rw (take-rest, kind, table-in-is (c .args .whole .now) p long, number)
