@@ -4,6 +4,9 @@ use std::error::AnyError;
 use std::fs;
 
 mod builtin;
+mod commands;
+mod copying;
+mod csv;
 mod entering;
 mod refusals;
 mod tables;
@@ -11,6 +14,9 @@ mod tables;
 use builtin::SITES_AND_PICKS;
 use cards::Card;
 use cards::CardSource;
+use commands::copy;
+use commands::export;
+use commands::import;
 use entering::QUOTA_MET;
 use entering::entry_text;
 use entering::sheet_text;
@@ -35,7 +41,24 @@ fn run(rt: &LibcRuntime) -> Result<(), AnyError> {
             let image = fs::read(rt, path.as_str())?;
             show_card(rt, path.as_str(), image.as_slice())
         }
-        _ => Err("usage: recorder [IMAGE]".into()),
+        [_, command, from, to] if command.as_str() == "copy" => copy(
+            rt,
+            from.as_str(),
+            to.as_str(),
+        ),
+        [_, command, from, number] if command.as_str() == "export" => export(
+            rt,
+            from.as_str(),
+            number.as_str(),
+        ),
+        [_, command, from, number, to] if command.as_str() == "import" => import(
+            rt,
+            from.as_str(),
+            number.as_str(),
+            to.as_str(),
+        ),
+        _ =>
+            Err("usage: recorder [IMAGE | copy IN OUT | import CSV NUMBER OUT | export IMAGE NUMBER]".into()),
     }
 }
 
