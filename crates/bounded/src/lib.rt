@@ -1,4 +1,6 @@
 // A list of bounded length that needs no heap.
+#![tactic(auto)]
+
 mod list;
 
 pub use list::Bounded;

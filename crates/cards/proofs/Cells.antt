@@ -1,10 +1,9 @@
 -- The cells of a row, put into a place one after another.
-use Rattle.std.proofs.Common.{◌≡◌, ℕ, zero, suc, ◌+◌, ◌-◌, ◌*◌, ◌/◌, ◌%◌, ◌<◌, ◌≤◌, List, [], ◌∷◌, ◌++◌, length, take, drop, set, replicate, None, sym, refl, ap, ◌∙◌, arith, length-drop}
+use Rattle.std.proofs.Common.{◌≡◌, ℕ, ◌+◌, ◌-◌, ◌*◌, ◌/◌, ◌<◌, ◌≤◌, List, [], ◌∷◌, ◌++◌, length, take, drop, set, replicate, None, sym, ap, ◌∙◌, arith, length-drop}
 use Rattle.std.proofs.lemmas.List.{append_assoc, append-nil, take-append-drop, take_more_set, drop-set-lt, drop-drop, drop-replicate}
 use Rattle.terms.specs.Cells.{Cell, Row}
 use Rattle.sources.specs.Answers.{six_cells}
 use Rattle.cards.specs.Format.{first_cell, cells_of}
-use Rattle.cards.specs.CardFormed.{length_cells}
 use Rattle.cards.proofs.Rows.{part_div}
 
 cells_next : (mark : ℕ) (bs : List ℕ) → 4 ≤ length bs → cells_of (length bs / 4) mark bs ≡ first_cell mark bs ∷ cells_of (length (drop 4 bs) / 4) (mark / 2) (drop 4 bs)

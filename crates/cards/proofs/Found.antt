@@ -1,5 +1,5 @@
 -- The search for a table through the records, and for a row in its bytes.
-use Rattle.std.proofs.Common.{◌≡◌, ℕ, zero, suc, ◌+◌, ◌-◌, ◌*◌, ◌/◌, ◌%◌, ◌<◌, ◌≤◌, true, false, cond, eqb, ltb, List, [], ◌∷◌, ◌++◌, length, get_or, take, drop, is_ok, Some, None, Option, sym, refl, ap, ◌∙◌, ⊎_elim, suc-mul, div-add-mod', zero-mul, arith, length-drop, length-take, take-add}
+use Rattle.std.proofs.Common.{◌≡◌, ℕ, zero, suc, ◌+◌, ◌-◌, ◌*◌, ◌/◌, ◌<◌, ◌≤◌, true, List, [], ◌∷◌, ◌++◌, length, get_or, take, drop, is_ok, Some, None, sym, refl, ap, ◌∙◌, ⊎_elim, suc-mul, div-add-mod', zero-mul, arith, length-drop, length-take, take-add}
 use Rattle.std.proofs.lemmas.Nat.{mul-le}
 use Rattle.std.proofs.lemmas.List.{drop-drop}
 use Rattle.std.proofs.lemmas.Option.{slice_get_past}
@@ -8,10 +8,10 @@ use Rattle.std.specs.List.{slice_get}
 use Rattle.std.specs.Option.{option_map}
 use Rattle.terms.specs.Tables.{row_at}
 use Rattle.terms.proofs.Loops.{numbered_in_front, numbered_behind}
-use Rattle.terms.proofs.Taken.{taken_at, taken_else}
+use Rattle.terms.proofs.Taken.{taken_at}
 use Rattle.cards.specs.Format.{row_width, row_of, rows_from}
 use Rattle.cards.specs.Heads.{Headed}
-use Rattle.cards.specs.Verdicts.{row_count, payload_verdict, records_verdict}
+use Rattle.cards.specs.Verdicts.{row_count, records_verdict}
 use Rattle.cards.specs.CardTables.{RawTable, table_in_payload, table_in, tables_in, table_for, raw_table, shown, card_tables}
 use Rattle.cards.specs.CardFormed.{length_rows}
 use Rattle.cards.proofs.Records.{left, Turn, turn_left, past_end}

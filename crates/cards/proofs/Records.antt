@@ -1,14 +1,13 @@
 -- What a loop over the records of an image needs: one record cut off, and the end.
-use Rattle.std.proofs.Common.{◌≡◌, ℕ, zero, suc, ◌+◌, ◌*◌, ◌<◌, ◌≤◌, true, false, cond, ltb, List, [], ◌∷◌, ◌++◌, length, get_or, take, drop, is_ok, Ok, Err, Result, sym, refl, ap, ◌∙◌, ⊎_elim, arith, length-drop, length-take}
-use Rattle.std.proofs.lemmas.Bool.{lt-ltb, le-ltb, cases_lt, true≢false}
+use Rattle.std.proofs.Common.{◌≡◌, ℕ, zero, suc, ◌+◌, ◌*◌, ◌<◌, ◌≤◌, true, false, ltb, List, [], ◌∷◌, ◌++◌, length, take, drop, Ok, Err, sym, refl, ap, ◌∙◌, arith, length-drop, length-take}
+use Rattle.std.proofs.lemmas.Bool.{lt-ltb, le-ltb}
 use Rattle.terms.specs.declared.faults.Fault.{Fault}
-use Rattle.terms.specs.declared.refusals.Refusal.{Refusal}
 use Rattle.terms.specs.declared.refusals.Refusal.TheVariants.{RecordPastEnd}
 use Rattle.terms.specs.Faults.{at_place, refused_at}
 use Rattle.terms.proofs.Loops.{refused_here, refused_later}
 use Rattle.cards.specs.Format.{CardRecord, cut, records}
 use Rattle.cards.specs.Heads.{size_at, kind_at, Headed}
-use Rattle.cards.specs.Verdicts.{payload_verdict, record_verdict, records_verdict, card_verdict, card_takes}
+use Rattle.cards.specs.Verdicts.{payload_verdict, records_verdict, card_verdict}
 
 -- more fuel than bytes changes nothing
 cut_fuel : (f g place : ℕ) (bs : List ℕ) → length bs ≤ f → length bs ≤ g → cut f place bs ≡ cut g place bs

@@ -1,5 +1,5 @@
 -- What a loop over rows, or over the cells of a row, needs: one part cut off, and the end.
-use Rattle.std.proofs.Common.{◌≡◌, ℕ, zero, suc, ◌+◌, ◌-◌, ◌*◌, ◌/◌, ◌%◌, ◌<◌, ◌≤◌, true, false, cond, ◌&&◌, ◌||◌, eqb, leb, ◌⊎◌, List, [], ◌∷◌, length, get_or, take, drop, Ok, Err, sym, refl, ap, ◌∙◌, inl, inr, ⊎_elim, mod-eq_of_lt, add-one, arith, length-drop}
+use Rattle.std.proofs.Common.{◌≡◌, ℕ, suc, ◌-◌, ◌/◌, ◌%◌, ◌<◌, ◌≤◌, true, false, cond, ◌&&◌, ◌||◌, eqb, leb, ◌⊎◌, List, [], ◌∷◌, length, get_or, take, drop, Err, sym, refl, ap, ◌∙◌, inl, inr, ⊎_elim, mod-eq_of_lt, add-one, arith, length-drop}
 use native.Mathlib.Nat.{div-eq-sub-div, mod-eq-sub-mod}
 use Rattle.std.proofs.lemmas.Bool.{cases_lt, ne_eqb, eq-eqb, le-leb, or_right}
 use Rattle.terms.specs.declared.refusals.Refusal.TheVariants.{BadTableHead, BadRow}

@@ -1,20 +1,20 @@
 -- A proof, for the card's promise as a source: the tables of an image that passed the load are well formed.
-use Rattle.std.specs.Prelude.{◌≡◌, ℕ, zero, suc, ◌+◌, ◌-◌, ◌*◌, ◌/◌, ◌%◌, ◌^◌, ◌<◌, ◌≤◌, Bool, true, false, cond, ◌&&◌, ltb, List, [], ◌∷◌, ◌++◌, length, take, drop, ℤ, pos, negsuc, is_ok, Some, None, Ok, Err, Option, Result, ◌==◌, nat_le, nat_lt, refl}
+use Rattle.std.specs.Prelude.{◌≡◌, ℕ, zero, suc, ◌-◌, ◌/◌, ◌%◌, ◌≤◌, Bool, true, false, cond, ltb, List, [], ◌∷◌, length, take, drop, is_ok, Some, None, Ok, Option, Result, ◌==◌, nat_le, nat_lt, refl}
 use Rattle.std.proofs.Common.{sym, ap, subst, ◌∙◌, ⊎_elim, arith}
 use Rattle.std.specs.Int.{w32}
-use mir.Val.{to_z, sel}
-use Rattle.std.proofs.lemmas.Bool.{and_parts, and_from, leb-true, eqb-true, true≢false, cond_both, cases_lt, lt-ltb, le-ltb, le-leb, ltb-true, ltb-false}
+use mir.Val.{to_z}
+use Rattle.std.proofs.lemmas.Bool.{and_parts, and_from, leb-true, eqb-true, true≢false, cond_both, cases_lt, lt-ltb, le-ltb, le-leb}
 use Rattle.std.specs.Option.{option_map}
-use Rattle.std.specs.List.{AllByRecursion as All}
+use Rattle.std.specs.List.{AllByRecursion}
 use Rattle.terms.specs.declared.refusals.Refusal.{Refusal}
 use Rattle.terms.specs.Cells.{cell_in_range, in_range, every}
 use Rattle.terms.specs.Numbered.{within}
-use Rattle.terms.specs.Tables.{Table, RowFormed, Formed, TableFormed, WellFormed}
+use Rattle.terms.specs.Tables.{RowFormed, Formed, TableFormed, WellFormed}
 use Rattle.sources.specs.Heads.{number_and_columns_in_range}
 use Rattle.terms.proofs.Loops.{numbered_in_front, numbered_behind}
 use Rattle.terms.proofs.Taken.{taken_at, taken_then, taken_else, between}
-use Rattle.cards.specs.Format.{CardRecord, records, row_width, word, first_cell, cells_of, readable, row_of, rows_from, rows_right}
-use Rattle.cards.specs.Verdicts.{row_count, rows_counted, rows_verdict, table_verdict, payload_verdict, record_verdict, records_verdict, card_verdict, card_takes}
+use Rattle.cards.specs.Format.{CardRecord, records, row_width, word, cells_of, readable, rows_from, rows_right}
+use Rattle.cards.specs.Verdicts.{row_count, rows_counted, rows_verdict, table_verdict, payload_verdict, record_verdict, records_verdict, card_takes}
 use Rattle.cards.specs.CardTables.{RawTable, table_in_payload, table_in, tables_in, table_for, raw_table, shown, card_tables}
 
 -- what holds of each table that counts on a card
@@ -92,7 +92,7 @@ pub length_cells : (n mark : ℕ) (bs : List ℕ) → length (cells_of n mark bs
 length_cells zero mark bs = refl
 length_cells (suc n) mark bs = ap suc (length_cells n (mark / 2) (drop 4 bs))
 
-rows_formed : (n columns : ℕ) (bs : List ℕ) → All (RowFormed columns) (rows_from n columns bs)
+rows_formed : (n columns : ℕ) (bs : List ℕ) → AllByRecursion (RowFormed columns) (rows_from n columns bs)
 rows_formed zero columns bs = tt
 rows_formed (suc n) columns bs =
     let row = take (row_width columns) bs in (

@@ -1,4 +1,6 @@
 // Cards: tables in a byte image, read in place.
+#![tactic(auto)]
+
 mod card;
 mod format;
 

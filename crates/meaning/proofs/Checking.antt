@@ -1,6 +1,6 @@
 -- A plan's checks are the checks of its query.
-use Rattle.std.proofs.Common.{◌≡◌, ℕ, zero, suc, ◌+◌, ◌<◌, ◌≤◌, Bool, true, false, cond, ◌&&◌, ◌||◌, eqb, List, [], ◌∷◌, ◌++◌, map, length, get_or, Some, None, Option, sym, refl, ap, ◌∙◌, subst, ap₂, append_assoc, arith}
-use Rattle.std.proofs.lemmas.List.{get_or_at, map-append, length-map, length_push}
+use Rattle.std.proofs.Common.{◌≡◌, ℕ, suc, ◌+◌, ◌<◌, ◌≤◌, Bool, true, false, ◌&&◌, ◌||◌, eqb, List, [], ◌∷◌, ◌++◌, map, length, get_or, Some, None, Option, sym, refl, ap, ◌∙◌, ap₂, append_assoc, arith}
+use Rattle.std.proofs.lemmas.List.{length-map, length_push}
 use Rattle.std.proofs.lemmas.Bool.{eq-eqb, ne_eqb}
 use Rattle.std.specs.List.{range_with_len}
 use Rattle.terms.specs.declared.comparisons.Comparison.{Comparison}
@@ -8,11 +8,9 @@ use Rattle.terms.specs.declared.comparisons.Comparison.TheVariants.{Equal}
 use Rattle.terms.specs.Comparisons.{mirrored}
 use Rattle.terms.specs.declared.faults.Fault.{Fault}
 use Rattle.terms.specs.Tables.{Table, Tables, columns_of}
-use Rattle.queries.specs.declared.aggregates.Aggregate.{Aggregate}
 use Rattle.queries.specs.declared.aggregates.Aggregate.TheVariants.{CountRows, Of}
 use Rattle.queries.specs.declared.nests.Nest.{Nest}
 use Rattle.queries.specs.declared.nests.Nest.TheVariants.{Aggregated, In, Exists, NotExists, Any, All}
-use Rattle.queries.specs.declared.parts.Link.{Link}
 use Rattle.queries.specs.declared.parts.Test.{Test}
 use Rattle.queries.specs.declared.steps.Join.{Join}
 use Rattle.queries.specs.declared.steps.Step.{Step}

@@ -1,5 +1,5 @@
 -- Laws of comparisons and of aggregates.
-use Rattle.std.proofs.Common.{◌≡◌, ℕ, suc, ◌+◌, ◌-◌, ◌^◌, ◌≤◌, Bool, true, not, eqb, List, [], ◌∷◌, map, length, ℤ, pos, negsuc, Some, None, fold, refl, ap, ◌∙◌, arith}
+use Rattle.std.proofs.Common.{◌≡◌, ℕ, suc, ◌+◌, ◌-◌, ◌^◌, ◌≤◌, true, not, eqb, List, [], ◌∷◌, map, length, ℤ, pos, negsuc, Some, None, fold, refl, ap, ◌∙◌, arith}
 use Rattle.std.proofs.lemmas.Bool.{le-leb, ne_eqb}
 use Rattle.std.proofs.lemmas.Bool.Decides.{nat_tests}
 use Rattle.terms.specs.declared.comparisons.Comparison.{Comparison}

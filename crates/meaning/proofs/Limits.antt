@@ -1,11 +1,10 @@
 -- How many steps a plan has: a spelled query has at most three inner blocks.
-use Rattle.std.proofs.Common.{◌≡◌, ℕ, suc, ◌+◌, ◌*◌, ◌≤◌, Bool, true, false, cond, leb, List, [], ◌∷◌, ◌++◌, map, length, Some, None, Ok, Err, fold, Option, Result, sym, refl, ap, ◌∙◌, subst, true≢false, arith, length-append}
-use mathlib.Core.Bool.{false≢true}
+use Rattle.std.proofs.Common.{◌≡◌, ℕ, suc, ◌+◌, ◌*◌, ◌≤◌, Bool, true, false, cond, List, [], ◌∷◌, ◌++◌, map, length, Some, None, Ok, Err, fold, Option, Result, sym, refl, ap, ◌∙◌, subst, arith, length-append}
 use Rattle.std.proofs.lemmas.List.{length-map, length_push}
 use Rattle.std.proofs.lemmas.Bool.{leb-false}
 use Rattle.bounded.specs.Listed.{revised}
 use Rattle.terms.specs.declared.refusals.Refusal.{Refusal}
-use Rattle.terms.specs.declared.refusals.Refusal.TheVariants.{OutOfTurn, OutOfRange, AllByEquality, OverLimit, NothingSelected}
+use Rattle.terms.specs.declared.refusals.Refusal.TheVariants.{OutOfTurn, AllByEquality, OverLimit, NothingSelected}
 use Rattle.queries.specs.declared.entries.Entry.{Entry}
 use Rattle.queries.specs.declared.entries.Part.{Part}
 use Rattle.queries.specs.declared.entries.Part.TheVariants.{Outermost, Tested, Linked, Nested, Selected, Finished}
@@ -13,7 +12,7 @@ use Rattle.queries.specs.declared.parts.Test.{Test}
 use Rattle.queries.specs.declared.steps.Step.TheVariants.{Restrict, Output}
 use Rattle.queries.specs.Entries.{read}
 use Rattle.meaning.specs.Queries.{Inner, Query}
-use Rattle.meaning.specs.Spelling.{Spelled, fresh, in_turn, all_by_equality, over_limit, nothing_selected, verdict_on, verdict, add_test, with_test, with_part, opened, query_with, entered_by, entered, spelled, finished}
+use Rattle.meaning.specs.Spelling.{Spelled, fresh, in_turn, all_by_equality, over_limit, nothing_selected, verdict_on, verdict, add_test, with_part, opened, query_with, entered_by, entered, spelled, finished}
 use Rattle.meaning.specs.Plans.{Flat, translated, restricts, unnest, unnests, plan}
 
 length-revised : {X : Type 0} (f : X → X) (xs : List X) → length (revised f xs) ≡ length xs

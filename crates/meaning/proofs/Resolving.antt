@@ -1,16 +1,15 @@
 -- The steps of a query's plan, with what they find of their blocks put in.
-use Rattle.std.proofs.Common.{◌≡◌, ℕ, suc, ◌+◌, List, [], ◌∷◌, ◌++◌, map, length, get_or, sym, refl, ap, ◌∙◌, append_assoc, arith}
+use Rattle.std.proofs.Common.{◌≡◌, ℕ, suc, List, [], ◌∷◌, ◌++◌, map, length, get_or, sym, refl, ap, ◌∙◌, append_assoc, arith}
 use Rattle.std.proofs.lemmas.List.{get_or_at, map-append, length-map, length_push}
-use Rattle.queries.specs.declared.steps.Step.{Step}
-use Rattle.queries.specs.declared.steps.Step.TheVariants.{Restrict, Output}
+use Rattle.queries.specs.declared.steps.Step.TheVariants.{Restrict}
 use Rattle.queries.specs.declared.steps.Join.{Join}
 use Rattle.meaning.specs.Rows.{Contents}
 use Rattle.meaning.specs.Aggregates.{Meaning}
 use Rattle.meaning.specs.Queries.{Query}
-use Rattle.meaning.specs.Plans.{Flat, PlanBlock, Plan, translated, inner_blocks, restricts, unnest, unnests, plan, table_of, tests_of, joins_of}
-use Rattle.meaning.specs.Running.{State, nothing, restrict, project, group, filter, output, take_step, take_steps}
+use Rattle.meaning.specs.Plans.{Flat, PlanBlock, Plan, translated, inner_blocks, unnest, unnests, plan, table_of, tests_of, joins_of}
+use Rattle.meaning.specs.Running.{State, restrict, project, group, filter, take_step, take_steps}
 use Rattle.meaning.proofs.Lists.{folded_append}
-use Rattle.meaning.proofs.Unnesting.{restricted, unnested_one, unnested, all_unnested}
+use Rattle.meaning.proofs.Unnesting.{unnested}
 
 -- these translated blocks stand in the plan, numbered from b
 abbrev pub Placed : Plan → ℕ → List Flat → Type 0

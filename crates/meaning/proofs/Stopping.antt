@@ -1,9 +1,8 @@
 -- Running over stored tables: what is read, where it stops, and the theorem.
-use Rattle.std.proofs.Common.{◌≡◌, ℕ, suc, ◌+◌, List, [], ◌∷◌, ◌++◌, map, length, Some, None, Ok, Err, fold, sum_by, Option, Result, sym, refl, ap, ◌∙◌, ap₂, append_assoc, arith}
+use Rattle.std.proofs.Common.{◌≡◌, ℕ, suc, ◌+◌, List, [], ◌∷◌, ◌++◌, map, length, Some, None, Ok, fold, sum_by, Option, sym, refl, ap, ◌∙◌, ap₂, append_assoc, arith}
 use Rattle.std.specs.Option.{option_map}
 use Rattle.std.proofs.lemmas.List.Sums.{sum_by-cons, sum_by-append}
 use Rattle.terms.specs.declared.comparisons.Comparison.TheVariants.{Equal}
-use Rattle.terms.specs.Cells.{Row}
 use Rattle.terms.specs.Tables.{Stored, Tables}
 use Rattle.queries.specs.declared.aggregates.Aggregate.TheVariants.{CountRows}
 use Rattle.queries.specs.declared.nests.Nest.{Nest}

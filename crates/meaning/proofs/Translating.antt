@@ -3,7 +3,7 @@ use Rattle.std.proofs.Common.{◌≡◌, ℕ, Bool, true, ◌&&◌, List, [], �
 use mathlib.Core.Path.{fun_ext}
 use Rattle.terms.specs.declared.comparisons.Comparison.{Comparison}
 use Rattle.terms.specs.declared.comparisons.Comparison.TheVariants.{Equal, Less}
-use Rattle.terms.specs.Cells.{Cell, Row, every}
+use Rattle.terms.specs.Cells.{Row, every}
 use Rattle.terms.specs.Comparisons.{holds, mirrored}
 use Rattle.queries.specs.declared.aggregates.Aggregate.{Aggregate}
 use Rattle.queries.specs.declared.aggregates.Aggregate.TheVariants.{CountRows, Of}

@@ -1,7 +1,7 @@
 -- Tuples: what PROJECT keeps, and what FILTER finds.
-use Rattle.std.proofs.Common.{◌≡◌, Bool, true, false, cond, ◌&&◌, ◌||◌, List, [], ◌∷◌, ◌++◌, map, ℤ, pos, negsuc, Some, None, fold, sym, refl, ap, ◌∙◌, ap₂}
+use Rattle.std.proofs.Common.{◌≡◌, Bool, true, false, cond, ◌&&◌, ◌||◌, List, [], ◌∷◌, ◌++◌, map, ℤ, pos, negsuc, Some, None, fold, sym, refl, ap, ap₂}
 use mathlib.Core.Bool.{false≢true}
-use Rattle.std.specs.List.{AllByRecursion as All}
+use Rattle.std.specs.List.{AllByRecursion}
 use Rattle.std.proofs.lemmas.Bool.{eqb-true, eq-eqb, and_parts}
 use Rattle.terms.specs.Cells.{Cell, same, same_number}
 use Rattle.meaning.specs.Rows.{alike, some}
@@ -59,7 +59,7 @@ folded_keeps [] seen t h = h
 folded_keeps (u ∷ us) seen t h = folded_keeps us (noted seen u) t (noted_keeps seen t u h)
 
 -- each row's own tuple stands among the distinct ones
-pub own_tuple : {X : Type 0} (f : X → List Cell) (xs : List X) (seen : List (List Cell)) → All (λ x. some (alike (f x)) (fold noted seen (map f xs)) ≡ true) xs
+pub own_tuple : {X : Type 0} (f : X → List Cell) (xs : List X) (seen : List (List Cell)) → AllByRecursion (λ x. some (alike (f x)) (fold noted seen (map f xs)) ≡ true) xs
 own_tuple f [] seen = tt
 own_tuple f (x ∷ xs) seen = (folded_keeps (map f xs) (noted seen (f x)) (f x) (noted_own seen (f x)), own_tuple f xs (noted seen (f x)))
 

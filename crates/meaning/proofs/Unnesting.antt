@@ -2,7 +2,6 @@
 -- whose nested tests are true.
 use Rattle.std.proofs.Common.{◌≡◌, ℕ, suc, ◌<◌, Bool, true, ◌&&◌, eqb, List, [], ◌∷◌, map, filter as kept_by, sym, refl, ap, ◌∙◌, arith}
 use mathlib.Core.Path.{fun_ext}
-use Rattle.std.specs.List.{AllByRecursion as All}
 use Rattle.std.proofs.lemmas.Bool.{eq-eqb, ne_eqb, cond-true, cond-false}
 use Rattle.std.proofs.ByRecursion.{All-weaker}
 use Rattle.terms.specs.Cells.{Cell, Row}

@@ -1,19 +1,16 @@
 -- What a run checks before it reads: the tables and columns that a query names, and the memory that it needs.
-use Rattle.std.specs.Prelude.{ℕ, zero, suc, ◌+◌, ◌*◌, Bool, true, false, cond, ◌&&◌, ◌||◌, List, [], ◌∷◌, ◌++◌, map, length, Some, None, Option, ◌==◌, nat_lt, slice_index}
+use Rattle.std.specs.Prelude.{ℕ, suc, ◌+◌, ◌*◌, Bool, false, cond, ◌&&◌, ◌||◌, List, [], ◌∷◌, ◌++◌, map, length, Some, None, Option, ◌==◌, nat_lt, slice_index}
 use Rattle.std.specs.List.{range_with_len}
 use Rattle.terms.specs.declared.faults.Fault.{Fault}
 use Rattle.terms.specs.declared.faults.Layer.TheVariants.{Run}
 use Rattle.terms.specs.declared.refusals.Refusal.{Refusal}
-use Rattle.terms.specs.declared.refusals.Refusal.TheVariants.{NoSuchTable, NoSuchColumn, BufferShort, WorkShort}
+use Rattle.terms.specs.declared.refusals.Refusal.TheVariants.{NoSuchTable, NoSuchColumn}
 use Rattle.terms.specs.Faults.{of_table, of_layer}
 use Rattle.terms.specs.Tables.{Table, Tables, rows_of, columns_of}
 use Rattle.queries.specs.declared.aggregates.Aggregate.{Aggregate}
 use Rattle.queries.specs.declared.aggregates.Aggregate.TheVariants.{CountRows, Of}
 use Rattle.queries.specs.declared.nests.Nest.{Nest}
 use Rattle.queries.specs.declared.nests.Nest.TheVariants.{Aggregated, In, Exists, NotExists, Any, All}
-use Rattle.queries.specs.declared.parts.Link.{Link}
-use Rattle.queries.specs.declared.parts.Test.{Test}
-use Rattle.queries.specs.declared.steps.Join.{Join}
 use Rattle.queries.specs.declared.steps.Operand.{Operand}
 use Rattle.queries.specs.declared.steps.Operand.TheVariants.{Column, Zero}
 use Rattle.queries.specs.declared.steps.Step.{Step}

@@ -9,7 +9,7 @@ use Rattle.queries.specs.declared.entries.Entry.{Entry}
 use Rattle.queries.specs.declared.entries.Entry.TheVariants.{Open, Test, Link, Nest, Select, Finish}
 use Rattle.meaning.specs.Aggregates.{Meaning, combining}
 use Rattle.meaning.specs.Queries.{Query, nested, nested_reads}
-use Rattle.meaning.specs.Spelling.{fresh, entered, spelled, finished, sheet_answer}
+use Rattle.meaning.specs.Spelling.{fresh, spelled, finished, sheet_answer}
 use Rattle.meaning.specs.Plans.{plan}
 use Rattle.meaning.specs.Reading.{Stop, contents, ran}
 

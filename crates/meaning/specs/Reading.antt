@@ -8,7 +8,7 @@ use Rattle.queries.specs.declared.steps.Step.TheVariants as step
 use Rattle.meaning.specs.Rows.{Contents}
 use Rattle.meaning.specs.Aggregates.{Meaning}
 use Rattle.meaning.specs.Queries.{Inner, Query, nested}
-use Rattle.meaning.specs.Plans.{Plan, plan, table_of}
+use Rattle.meaning.specs.Plans.{Plan, table_of}
 use Rattle.meaning.specs.Running.{State, nothing, take_step}
 
 -- the stored rows of a table

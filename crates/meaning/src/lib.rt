@@ -1,5 +1,7 @@
 // What a query means, what its flat plan does, and that both come to the same. The definitions are in specs/; the functions
 // here have the theorems in their contracts, so that the check asks for the proofs.
+#![tactic(auto)]
+
 ghost use Rattle.std.specs.Prelude.{◌≡◌};
 ghost use Rattle.meaning.specs.Examples.{Worked, Declined};
 ghost use Rattle.meaning.specs.Statements.{FlatIsNested, FewSteps};

@@ -1,4 +1,6 @@
 // The parts of queries and plans: entries as they are given, what they stand for, and the steps of a plan.
+#![tactic(auto)]
+
 mod aggregates;
 mod entries;
 mod nests;

@@ -75,7 +75,7 @@ fn export_table(rt: &HostRuntime, image: &[u8], table: u8) -> anyhow::Result<()>
 fn load<'a>(rt: &HostRuntime, card: &mut Card<'a>, image: &'a [u8]) -> anyhow::Result<()> {
     match card.load(image) {
         Ok(()) => Ok(()),
-        Err(fault) => Err(refusal_line(rt.alloc(), fault)?.into()),
+        Err(fault) => Err(anyhow!(refusal_line(rt.alloc(), fault)?)),
     }
 }
 

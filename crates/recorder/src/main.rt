@@ -1,4 +1,6 @@
 // The recorder at the command line: loads a card and prints its tables.
+#![tactic(auto)]
+
 use anyhow::anyhow;
 use std::{env, fs};
 

@@ -1,7 +1,7 @@
 -- One entry more spells the query after it.
-use Rattle.std.proofs.Common.{◌≡◌, List, [], ◌∷◌, ◌++◌, fold, sym, refl, ap, ◌∙◌}
+use Rattle.std.proofs.Common.{◌≡◌, [], ◌∷◌, ◌++◌, sym, ap, ◌∙◌}
 use Rattle.queries.specs.declared.entries.Entry.{Entry}
-use Rattle.meaning.specs.Spelling.{Spelled, fresh, entered, spelled}
+use Rattle.meaning.specs.Spelling.{Spelled, fresh, entered}
 use Rattle.meaning.proofs.Lists.{folded_append}
 use Rattle.sheets.specs.Drafts.{SpelledBy}
 

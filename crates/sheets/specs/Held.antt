@@ -1,7 +1,6 @@
 -- What a sheet's parts mean.
-use Rattle.std.specs.Prelude.{List, map}
+use Rattle.std.specs.Prelude.{map}
 use Rattle.bounded.specs.Listed.{listed}
-use Rattle.std.specs.Option.{option_map}
 use Rattle.meaning.specs.Queries.{Inner, Query}
 use Rattle.sheets.specs.declared.blocks.InnerBlock.{InnerBlock}
 use Rattle.sheets.specs.declared.blocks.SheetQuery.{SheetQuery}

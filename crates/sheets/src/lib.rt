@@ -1,4 +1,6 @@
 // Sheets: a query is entered step by step, and every step is taken or declined.
+#![tactic(auto)]
+
 mod blocks;
 mod draft;
 mod sheet;

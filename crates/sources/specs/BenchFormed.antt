@@ -1,11 +1,11 @@
 -- A proof, for the bench's promise as a source: the tables that a bench shows are well formed.
-use Rattle.std.specs.Prelude.{◌≡◌, ℕ, zero, suc, ◌+◌, ◌-◌, ◌*◌, ◌<◌, ◌≤◌, Bool, true, false, cond, ◌&&◌, List, [], ◌∷◌, map, length, drop, is_ok, Some, None, Option, ◌==◌, nat_le, refl}
-use Rattle.std.proofs.Common.{sym, ap, subst, ◌∙◌, suc-mul, arith, length-take, length-drop}
+use Rattle.std.specs.Prelude.{◌≡◌, ℕ, zero, suc, ◌+◌, ◌*◌, ◌≤◌, Bool, true, false, cond, ◌&&◌, List, [], ◌∷◌, length, drop, is_ok, Some, None, Option, ◌==◌, nat_le, refl}
+use Rattle.std.proofs.Common.{ap, subst, suc-mul, arith, length-take, length-drop}
 use Rattle.std.proofs.ByRecursion.{All-map}
 use Rattle.std.proofs.lemmas.List.{length-map}
 use Rattle.std.proofs.lemmas.Bool.{and_parts, leb-true, eqb-true}
 use Rattle.std.specs.Option.{option_map}
-use Rattle.std.specs.List.{AllByRecursion as All}
+use Rattle.std.specs.List.{AllByRecursion}
 use Rattle.terms.specs.Cells.{Cell, cell_in_range, every}
 use Rattle.terms.specs.Numbered.{within}
 use Rattle.terms.specs.Tables.{Filled, RowFormed, Formed, TableFormed, WellFormed}
@@ -55,7 +55,7 @@ sound_in len at n (x ∷ hs) h e f =
 pub sound_for : (heads : List TableHead) (cells : List Cell) (n : ℕ) (h : TableHead) → bench_takes heads cells ≡ true → head_for heads n ≡ Some h → Sound (length cells) n h
 sound_for heads cells n h e f = sound_in (length cells) 0 n heads h e f
 
-pub rows_filled : (n columns : ℕ) (cells : List Cell) → n * columns ≤ length cells → every cell_in_range cells ≡ true → All (Filled columns) (rows_in n columns cells)
+pub rows_filled : (n columns : ℕ) (cells : List Cell) → n * columns ≤ length cells → every cell_in_range cells ≡ true → AllByRecursion (Filled columns) (rows_in n columns cells)
 rows_filled zero columns cells h e = tt
 rows_filled (suc n) columns cells h e =
     let total = suc-mul n columns in (

@@ -1,4 +1,6 @@
 // Table sources: what the engine asks of whatever holds the recorder's tables, and the bench, a source over plain cells.
+#![tactic(auto)]
+
 mod bench;
 mod head;
 mod ranges;

@@ -1,8 +1,8 @@
 -- What a source of tables shows.
 use Rattle.std.specs.Prelude.{◌≡◌, ℕ, ◌<◌, ◌≤◌, Bool, true, List, [], length, Some, None, Option}
-use Rattle.std.specs.List.{slice_get, AllByRecursion as All}
+use Rattle.std.specs.List.{slice_get, AllByRecursion}
 use Rattle.terms.specs.Numbered.{numbered, within}
-use Rattle.terms.specs.Cells.{Cell, Row, cell_in_range, every}
+use Rattle.terms.specs.Cells.{Row, cell_in_range, every}
 
 -- tables have the numbers 1 to 16, and at most 6 columns, which count from 1
 abbrev pub is_table : ℕ → Bool
@@ -36,7 +36,7 @@ pub record Formed (t : Table) : Type 0 where
   pub some_column : 1 ≤ t.columns
   pub few_columns : t.columns ≤ 6
   pub few_rows : length t.rows ≤ 1024
-  pub each_row : All (RowFormed t.columns) t.rows
+  pub each_row : AllByRecursion (RowFormed t.columns) t.rows
 
 abbrev pub TableFormed : Option Table → Type 0
 TableFormed None = Unit {0}

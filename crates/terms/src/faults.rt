@@ -103,14 +103,10 @@ impl Fault {
     pub fn of_table(refusal: Refusal, block: u8, table: u8) -> Fault
         ensures { result ≡ of_table refusal block table }
     {
-        Fault {
-            refusal,
-            layer: Layer::Run,
-            block,
-            table,
-            row: 0,
-            place: 0,
-        }
+        let mut fault = Fault::of_layer(refusal, Layer::Run);
+        fault.block = block;
+        fault.table = table;
+        fault
     }
 
     // A source's answer with the block added to its fault.

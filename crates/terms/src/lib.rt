@@ -1,4 +1,6 @@
 // The words that every other crate uses: cells, comparisons and faults.
+#![tactic(auto)]
+
 mod cells;
 mod comparisons;
 mod faults;

@@ -1,12 +1,12 @@
 -- What is written is read back.
-use Rattle.std.proofs.Common.{◌≡◌, ℕ, suc, ◌+◌, ◌*◌, ◌/◌, ◌%◌, ◌^◌, ◌<◌, ◌≤◌, Bool, true, false, ◌||◌, eqb, ltb, leb, List, [], ◌∷◌, ◌++◌, map, length, take, drop, ℤ, pos, negsuc, Some, None, sym, refl, ap, ◌∙◌, mod-eq_of_lt, suc-mul, div-add-mod', zero-mul, arith, w32, SFits, to_z, of_z}
+use Rattle.std.proofs.Common.{◌≡◌, ℕ, ◌+◌, ◌*◌, ◌/◌, ◌%◌, ◌^◌, ◌<◌, ◌≤◌, true, false, ◌||◌, eqb, ltb, List, [], ◌∷◌, ◌++◌, map, length, take, drop, ℤ, pos, negsuc, Some, None, sym, refl, ap, ◌∙◌, mod-eq_of_lt, suc-mul, div-add-mod', zero-mul, arith, w32, SFits, to_z, of_z}
 use native.Mathlib.Nat.{div-div-eq-div-mul}
 use lib.Signed.{le_z}
 use Rattle.std.proofs.lemmas.List.{length-append, take_at, drop_at}
 use Rattle.std.proofs.lemmas.Int.{to_z-of_z}
 use Rattle.std.proofs.lemmas.Bool.{and_parts, eq-eqb, ne_eqb, leb-true, lt-ltb}
 use Rattle.std.proofs.lemmas.Nat.{div_below}
-use Rattle.std.specs.List.{flat_map, AllByRecursion as All}
+use Rattle.std.specs.List.{flat_map, AllByRecursion}
 use Rattle.terms.specs.Cells.{Cell, Row, in_range, cell_in_range, every}
 use Rattle.terms.specs.Tables.{Filled}
 use Rattle.cards.specs.Format.{row_width, word, first_cell, cells_of, cells_right, row_of, row_right, rows_from, rows_right}
@@ -72,7 +72,7 @@ row_back columns cs h f =
 
 -- Rows.
 
-pub length_rows : (columns : ℕ) (rows : List Row) → All (Filled columns) rows → length (flat_map row_bytes rows) ≡ length rows * row_width columns
+pub length_rows : (columns : ℕ) (rows : List Row) → AllByRecursion (Filled columns) rows → length (flat_map row_bytes rows) ≡ length rows * row_width columns
 length_rows columns [] h = sym (zero-mul (row_width columns))
 length_rows columns (r ∷ rows) h =
     length-append (row_bytes r) (flat_map row_bytes rows) ∙ omega (arith, length_row r, ap row_width h.0.wide, length_rows columns rows h.1, suc-mul (length rows) (row_width columns))
@@ -81,7 +81,7 @@ length_rows columns (r ∷ rows) h =
 row_long : (columns : ℕ) (r : Row) → length r ≡ columns → length (row_bytes r) ≡ row_width columns
 row_long columns r e = length_row r ∙ ap row_width e
 
-pub rows_back : (columns : ℕ) (rows : List Row) → columns ≤ 6 → All (Filled columns) rows → (rows_from (length rows) columns (flat_map row_bytes rows) ≡ map Some rows) × (rows_right (length rows) columns (flat_map row_bytes rows) ≡ true)
+pub rows_back : (columns : ℕ) (rows : List Row) → columns ≤ 6 → AllByRecursion (Filled columns) rows → (rows_from (length rows) columns (flat_map row_bytes rows) ≡ map Some rows) × (rows_right (length rows) columns (flat_map row_bytes rows) ≡ true)
 rows_back columns [] h f = (refl, refl)
 rows_back columns (r ∷ rows) h f =
     let here = row_back columns r h f.0 in

@@ -1,10 +1,10 @@
 -- The image of one written table.
-use Rattle.std.proofs.Common.{◌≡◌, ℕ, ◌+◌, ◌*◌, ◌/◌, ◌%◌, ◌≤◌, true, eqb, leb, List, [], ◌∷◌, ◌++◌, map, length, is_ok, Some, Ok, sym, refl, ap, ◌∙◌, mul-div_cancel, arith}
+use Rattle.std.proofs.Common.{◌≡◌, ℕ, ◌+◌, ◌*◌, ◌/◌, ◌%◌, ◌≤◌, true, eqb, leb, List, [], ◌∷◌, map, length, is_ok, Some, Ok, sym, refl, ap, ◌∙◌, mul-div_cancel, arith}
 use native.Mathlib.Nat.{mul-mod_left}
 use Rattle.std.proofs.lemmas.Nat.{mul-le}
 use Rattle.std.proofs.lemmas.List.{take_all, drop_all}
 use Rattle.std.proofs.lemmas.Bool.{eq-eqb, le-leb}
-use Rattle.std.specs.List.{flat_map, AllByRecursion as All}
+use Rattle.std.specs.List.{flat_map, AllByRecursion}
 use Rattle.std.specs.Option.{option_map}
 use Rattle.terms.specs.Cells.{Row}
 use Rattle.terms.specs.Faults.{refused_at}
@@ -25,7 +25,7 @@ pub record Writable (number columns : ℕ) (rows : List Row) : Type 0 where
   pub some_column : 1 ≤ columns
   pub few_columns : columns ≤ 6
   pub few_rows : length rows ≤ 1024
-  pub each_row : All (Filled columns) rows
+  pub each_row : AllByRecursion (Filled columns) rows
 
 module _ (number columns : ℕ) (rows : List Row) (t : Writable number columns rows) where
   long : length (flat_map row_bytes rows) ≡ length rows * row_width columns

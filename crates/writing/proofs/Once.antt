@@ -1,17 +1,16 @@
 -- The record that counts for a number, where the table has no unreadable row, is the table's writing.
-use Rattle.std.proofs.Common.{◌≡◌, ℕ, zero, suc, ◌+◌, ◌*◌, ◌/◌, ◌%◌, ◌<◌, ◌≤◌, Bool, true, false, cond, eqb, ltb, List, [], ◌∷◌, ◌++◌, map, length, take, drop, is_ok, Some, None, Option, Result, sym, refl, ap, ◌∙◌, subst, true≢false, mod-eq_of_lt, div-add-mod', arith, length-take}
+use Rattle.std.proofs.Common.{◌≡◌, ℕ, zero, suc, ◌+◌, ◌*◌, ◌/◌, ◌%◌, ◌<◌, Bool, true, false, cond, eqb, ltb, List, [], ◌∷◌, map, length, take, drop, is_ok, Some, None, Option, sym, refl, ap, ◌∙◌, subst, mod-eq_of_lt, div-add-mod', arith, length-take}
 use Rattle.std.proofs.lemmas.Nat.{div-mul-add, mod-mul-add}
 use Rattle.std.proofs.lemmas.Bool.{eqb-true, ltb-false}
 use Rattle.std.specs.List.{flat_map}
 use Rattle.std.specs.Option.{option_map}
-use Rattle.terms.specs.declared.refusals.Refusal.{Refusal}
 use Rattle.terms.specs.Cells.{Row}
 use Rattle.terms.specs.Tables.{Table}
 use Rattle.terms.proofs.Loops.{numbered_in_front, numbered_behind}
 use Rattle.terms.proofs.Taken.{taken_at, taken_else}
-use Rattle.cards.specs.Format.{CardRecord, cut, records, row_width}
-use Rattle.cards.specs.Verdicts.{row_count, table_verdict, payload_verdict, record_verdict, records_verdict, card_takes}
-use Rattle.cards.specs.CardTables.{RawTable, table_in_payload, table_in, tables_in, table_for, raw_table, shown, card_tables}
+use Rattle.cards.specs.Format.{CardRecord, cut, row_width}
+use Rattle.cards.specs.Verdicts.{row_count, payload_verdict, record_verdict, records_verdict, card_takes}
+use Rattle.cards.specs.CardTables.{RawTable, table_in_payload, table_in, tables_in, table_for, raw_table, shown}
 use Rattle.cards.specs.CardFormed.{Sound, sound_table, records_taken}
 use Rattle.writing.specs.Laws.{Bytes, WrittenOnce}
 use Rattle.writing.specs.Records.{row_bytes, table_record}

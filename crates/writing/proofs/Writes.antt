@@ -1,10 +1,10 @@
 -- The record that a head is written as.
-use Rattle.std.proofs.Common.{◌≡◌, ℕ, zero, suc, ◌+◌, ◌-◌, ◌*◌, ◌/◌, ◌%◌, ◌<◌, ◌≤◌, true, leb, List, [], ◌∷◌, ◌++◌, length, take, drop, set, is_ok, Some, None, Ok, Err, sym, refl, ap, ◌∙◌, subst, suc-mul, zero-mul, mul-div_cancel, arith, length-drop, length-take}
+use Rattle.std.proofs.Common.{◌≡◌, ℕ, zero, suc, ◌+◌, ◌-◌, ◌*◌, ◌/◌, ◌%◌, ◌≤◌, true, leb, List, [], ◌++◌, length, take, drop, is_ok, Ok, sym, refl, ap, ◌∙◌, subst, suc-mul, zero-mul, mul-div_cancel, arith, length-drop, length-take}
 use native.Mathlib.Nat.{mul-mod_left}
 use Rattle.std.proofs.lemmas.List.{length-append, take_at, take-take, drop-take}
 use Rattle.std.proofs.lemmas.Bool.{leb-true}
 use Rattle.std.proofs.lemmas.Nat.{mul-le}
-use Rattle.std.specs.List.{flat_map, AllByRecursion as All}
+use Rattle.std.specs.List.{flat_map, AllByRecursion}
 use Rattle.terms.specs.Cells.{Cell, cell_in_range, every}
 use Rattle.terms.specs.Tables.{Filled}
 use Rattle.terms.specs.declared.refusals.Refusal.TheVariants.{BufferShort}
@@ -97,7 +97,7 @@ module _ (h : TableHead) (cs : List Cell) (room : ℕ) (t : Taken h (length cs) 
         some_column = t.sound.some_column;
         few_columns = t.sound.few_columns;
         few_rows = rw length-rows-in t.sound.few_rows;
-        each_row = subst (All (Filled h.columns)) same (rows_filled h.rows h.columns (handed h cs) (omega (arith, handed_count)) ranged);
+        each_row = subst (AllByRecursion (Filled h.columns)) same (rows_filled h.rows h.columns (handed h cs) (omega (arith, handed_count)) ranged);
       }
 
   -- the bytes written, loaded, show the table

@@ -1,6 +1,6 @@
 -- What writing and loading have to do with each other.
 use Rattle.std.specs.Prelude.{◌≡◌, ℕ, ◌<◌, true, List, map, Some, Option}
-use Rattle.std.specs.List.{AllByRecursion as All}
+use Rattle.std.specs.List.{AllByRecursion}
 use Rattle.terms.specs.Cells.{Row}
 use Rattle.terms.specs.Tables.{Table}
 use Rattle.cards.specs.Verdicts.{card_takes}
@@ -13,7 +13,7 @@ pub record Shows (image : List ℕ) (number : ℕ) (table : Table) : Type 0 wher
   pub shown : card_tables image number ≡ Some table
 
 abbrev pub Bytes : List ℕ → Type 0
-Bytes bytes = All (λ b. b < 256) bytes
+Bytes bytes = AllByRecursion (λ b. b < 256) bytes
 
 -- a table has one writing: where none of the rows that an image shows under a number is unreadable, the record that counts
 -- for the number is, byte for byte, the one that writing gives for the table

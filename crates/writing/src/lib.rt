@@ -1,4 +1,6 @@
 // Writing a table as a card record, and the record that a card has of a table.
+#![tactic(auto)]
+
 mod reading;
 mod record;
 #[cfg(test)]

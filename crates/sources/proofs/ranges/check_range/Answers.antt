@@ -5,7 +5,7 @@ use Rattle.terms.proofs.Loops.{every_more}
 use Rattle.sources.proofs.ranges.check_range.Goals as goal
 
 pub loop-cell-preserved : goal.loop-cell-preserved
-loop-cell-preserved c = every_more cell_in_range c.args.cells.now c.loop-cell.cell-index _ c.loop-cell-test.true c.check-cell.ensures ∙ c.loop-cell.invariant
+loop-cell-preserved c = every_more cell_in_range c.args.cells.now c.loop-cell.cell-index _ c.loop-cell-test.true c.check_cell.ensures ∙ c.loop-cell.invariant
 
 pub returns : goal.returns
 returns c = sym c.loop-cell.invariant ∙ at_drop_all (every cell_in_range) c.args.cells.now c.loop-cell.cell-index c.loop-cell-test.false

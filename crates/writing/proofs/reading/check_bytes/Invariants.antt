@@ -1,4 +1,4 @@
-use Rattle.std.proofs.Common.{◌<◌, take}
+use Rattle.std.proofs.Common.{take}
 use Rattle.writing.specs.Laws.{Bytes}
 use Rattle.writing.proofs.reading.check_bytes.Given as goal
 

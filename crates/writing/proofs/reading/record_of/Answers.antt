@@ -6,8 +6,8 @@ returns c =
     let card = c.args.card.now in
     record {
       found = c.in-Some.ensures;
-      once = found_once card.image.now c.args.table c.in-Some.bytes.now card.passed c.in-Some.ensures c.check-bytes.ensures;
+      once = found_once card.image.now c.args.table c.in-Some.bytes.now card.passed c.in-Some.ensures c.check_bytes.ensures;
     }
 
-pub returns-in-default : goal.returns-in-default
-returns-in-default c = record { found = c.in-default.ensures; once = none_once c.args.card.now.image.now c.args.table c.in-default.ensures }
+pub returns-in_default : goal.returns-in_default
+returns-in_default c = record { found = c.in_default.ensures; once = none_once c.args.card.now.image.now c.args.table c.in_default.ensures }

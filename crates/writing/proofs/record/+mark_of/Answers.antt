@@ -1,28 +1,28 @@
-use Rattle.std.proofs.Common.{◌≡◌, ℕ, ◌+◌, ◌*◌, ◌<◌, ◌≤◌, [], length, get_or, drop, Some, None, sym, refl, ap, ◌∙◌, arith, length-drop, rules}
+use Rattle.std.proofs.Common.{◌≡◌, ◌<◌, [], get_or, drop, None, sym, ap, arith, length-drop, rules}
 use Rattle.std.proofs.lemmas.List.{take_rest, nil_from_length}
 use Rattle.writing.specs.Records.{mark_of, mark_bit}
 use Rattle.writing.proofs.Marks.{mark_below, mark_next}
 use Rattle.writing.proofs.record.+mark_of.Goals as goal
 
-pub overflow-mul-result : goal.overflow-mul-result
-overflow-mul-result t c =
+pub overflow_mul-result : goal.overflow_mul-result
+overflow_mul-result t c =
     let e = rw take_rest at c.mark_of.ensures in
     let small = mark_below (drop 1 c.args.cells.now) 5 (rw length-drop (omega (arith, c.requires))) in
     let r : c.mark_of.result < 32 = rw e small in
     search rules
 
-pub overflow-mul-result-in-None : goal.overflow-mul-result-in-None
-overflow-mul-result-in-None t c =
-    let e = rw take_rest at c.mark-of-in-None.ensures in
+pub overflow_mul-result-in-None : goal.overflow_mul-result-in-None
+overflow_mul-result-in-None t c =
+    let e = rw take_rest at c.mark_of-in-None.ensures in
     let small = mark_below (drop 1 c.args.cells.now) 5 (rw length-drop (omega (arith, c.requires))) in
-    let r : c.mark-of-in-None.result < 32 = rw e small in
+    let r : c.mark_of-in-None.result < 32 = rw e small in
     search rules
 
-pub overflow-add-result : goal.overflow-add-result
-overflow-add-result t c =
-    let e = rw take_rest at c.mark-of-in-None.ensures in
+pub overflow_add-result : goal.overflow_add-result
+overflow_add-result t c =
+    let e = rw take_rest at c.mark_of-in-None.ensures in
     let small = mark_below (drop 1 c.args.cells.now) 5 (rw length-drop (omega (arith, c.requires))) in
-    let r : c.mark-of-in-None.result < 32 = rw e small in
+    let r : c.mark_of-in-None.result < 32 = rw e small in
     search rules
 
 pub returns-in-empty : goal.returns-in-empty
@@ -38,4 +38,4 @@ pub returns-in-None : goal.returns-in-None
 returns-in-None t c =
     let cs = c.args.cells.now in
     let bit : mark_bit (get_or cs 0 None) ≡ 1 = search rules in
-    omega (arith, rw take_rest at c.mark-of-in-None.ensures, bit, mark_next cs None (search rules))
+    omega (arith, rw take_rest at c.mark_of-in-None.ensures, bit, mark_next cs None (search rules))

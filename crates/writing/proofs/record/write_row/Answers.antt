@@ -1,4 +1,4 @@
-use Rattle.std.proofs.Common.{◌≡◌, ◌+◌, get_or, set, sym, refl, ap, ◌∙◌, arith, rules}
+use Rattle.std.proofs.Common.{◌+◌, set, sym, ap, ◌∙◌, arith}
 use Rattle.std.specs.List.{flat_map}
 use Rattle.writing.specs.Records.{put_all, cell_bytes}
 use Rattle.writing.proofs.Puts.{parts_next, parts_end, length-cell}
@@ -6,7 +6,7 @@ use Rattle.writing.proofs.record.write_row.Goals as goal
 
 pub loop-cell-preserved : goal.loop-cell-preserved
 loop-cell-preserved c =
-    (omega arith, parts_next cell_bytes c.loop-cell.out _ c.loop-cell.pos _ c.loop-cell.cell-index c.args.cells.now _ c.loop-cell-test.true c.write-cell.ensures (ap (λ n. c.loop-cell.pos + n) (sym (length-cell _))) ∙ c.loop-cell.invariant.1)
+    (omega arith, parts_next cell_bytes c.loop-cell.out _ c.loop-cell.pos _ c.loop-cell.cell-index c.args.cells.now _ c.loop-cell-test.true c.write_cell.ensures (ap (λ n. c.loop-cell.pos + n) (sym (length-cell _))) ∙ c.loop-cell.invariant.1)
 
 pub returns : goal.returns
 returns c =

@@ -1,6 +1,6 @@
-use Rattle.std.proofs.Common.{◌≡◌, ◌+◌, ◌*◌, ◌≤◌, length, drop}
+use Rattle.std.proofs.Common.{◌≡◌, ◌+◌, ◌*◌, drop}
 use Rattle.std.specs.List.{flat_map}
-use Rattle.writing.specs.Records.{put_all, cell_bytes, row_bytes}
+use Rattle.writing.specs.Records.{put_all, cell_bytes}
 use Rattle.writing.proofs.record.write_row.Given as goal
 
 abbrev pub invariant-loop-cell : goal.invariant-loop-cell

@@ -1,4 +1,4 @@
-use Rattle.std.proofs.Common.{◌≡◌, ◌+◌, ◌<◌, ◌≤◌, length, sym, ◌∙◌, arith, length-drop, length-set, rules}
+use Rattle.std.proofs.Common.{◌<◌, ◌≤◌, length, ◌∙◌, arith, length-drop, length-set, rules}
 use Rattle.std.proofs.lemmas.List.{take_rest}
 use Rattle.cards.specs.CardFormed.{length_cells}
 use Rattle.cards.proofs.Cells.{put_more, put_all}
@@ -10,7 +10,7 @@ loop-rest-preserved c =
     let long : 4 ≤ length bs = search rules in
     rw take_rest (
       simp length-drop (omega arith),
-      put_more c.loop-rest.i c.loop-rest.place c.loop-rest.left bs _ _ (omega (arith, c.requires.few)) long c.read-cell.ensures c.loop-rest.invariant.1 (length-set _ _ _ ∙ c.loop-rest.invariant.1.long),
+      put_more c.loop-rest.i c.loop-rest.place c.loop-rest.left bs _ _ (omega (arith, c.requires.few)) long c.read_cell.ensures c.loop-rest.invariant.1 (length-set _ _ _ ∙ c.loop-rest.invariant.1.long),
     )
 
 pub returns : goal.returns

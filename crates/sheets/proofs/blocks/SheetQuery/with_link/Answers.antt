@@ -7,7 +7,7 @@ use Rattle.sheets.proofs.blocks.SheetQuery.with_link.Goals as goal
 pub returns-in-Some : goal.returns-in-Some
 returns-in-Some c =
     let q = query_of c.args.self in
-    c.with-newest.ensures ∙ ap (with_inner q) (revised_by (with_link c.args.link) q.inner _ _ c.in-Some.ensures c.with_link.ensures)
+    c.with_newest.ensures ∙ ap (with_inner q) (revised_by (with_link c.args.link) q.inner _ _ c.in-Some.ensures c.with_link.ensures)
 
 pub returns-in-None : goal.returns-in-None
 returns-in-None c =

@@ -8,4 +8,4 @@ use Rattle.sheets.proofs.blocks.SheetQuery.with_newest.Goals as goal
 pub returns : goal.returns
 returns c =
     ap (with_inner (query_of c.args.self))
-    (ap (map inner_of) c.set-last.ensures ∙ map-revised inner_of (listed c.args.self.inner) c.args.block)
+    (ap (map inner_of) c.set_last.ensures ∙ map-revised inner_of (listed c.args.self.inner) c.args.block)

@@ -7,7 +7,7 @@ use Rattle.sheets.proofs.blocks.SheetQuery.with_test.Goals as goal
 pub returns-in-Some : goal.returns-in-Some
 returns-in-Some c =
     let q = query_of c.args.self in
-    c.with-newest.ensures
+    c.with_newest.ensures
     ∙ ap (with_inner q) (revised_by (with_test c.args.test) q.inner _ _ c.in-Some.ensures c.with_test.ensures)
     ∙ sym (test_newest c.args.test q q.inner _ c.in-Some.ensures)
 

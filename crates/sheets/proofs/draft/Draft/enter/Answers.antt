@@ -3,5 +3,5 @@ use Rattle.meaning.proofs.Limits.{taken_not_over}
 use Rattle.sheets.specs.Drafts.{draft_of}
 use Rattle.sheets.proofs.draft.Draft.enter.Goals as goal
 
-pub with-part-requires : goal.with-part-requires
-with-part-requires c = taken_not_over (draft_of c.args.self.now) c.args.entry c.in-Ok.part (sym c.in-Ok.ensures)
+pub with_part-requires : goal.with_part-requires
+with_part-requires c = taken_not_over (draft_of c.args.self.now) c.args.entry c.in-Ok.part (sym c.in-Ok.ensures)

@@ -1,4 +1,4 @@
-use Rattle.std.proofs.Common.{◌≤◌, arith, length-take, rules}
+use Rattle.std.proofs.Common.{arith, length-take, rules}
 use Rattle.sources.proofs.HeadRows.{found_inside, row_found, row_not_found}
 use Rattle.sources.proofs.bench.Bench.find_row.Goals as goal
 
@@ -6,20 +6,20 @@ pub returns-then-row-head : goal.returns-then-row-head
 returns-then-row-head c =
     record { row = row_not_found c.args.self.now.heads.now c.args.self.now.cells.now c.args.table _ c.args.row c.in-Some.ensures c.if-row-head.true; few = tt }
 
-pub overflow-mul-start : goal.overflow-mul-start
-overflow-mul-start c = let e = found_inside c.args.self.now c.args.table c.in-Some.head c.args.row c.in-Some.ensures c.if-row-head.false in search rules
+pub overflow_mul-start : goal.overflow_mul-start
+overflow_mul-start c = let e = found_inside c.args.self.now c.args.table c.in-Some.head c.args.row c.in-Some.ensures c.if-row-head.false in search rules
 
-pub overflow-add-start : goal.overflow-add-start
-overflow-add-start c = let e = found_inside c.args.self.now c.args.table c.in-Some.head c.args.row c.in-Some.ensures c.if-row-head.false in search rules
+pub overflow_add-start : goal.overflow_add-start
+overflow_add-start c = let e = found_inside c.args.self.now c.args.table c.in-Some.head c.args.row c.in-Some.ensures c.if-row-head.false in search rules
 
-pub overflow-add-result : goal.overflow-add-result
-overflow-add-result c = let e = found_inside c.args.self.now c.args.table c.in-Some.head c.args.row c.in-Some.ensures c.if-row-head.false in search rules
+pub overflow_add-result : goal.overflow_add-result
+overflow_add-result c = let e = found_inside c.args.self.now c.args.table c.in-Some.head c.args.row c.in-Some.ensures c.if-row-head.false in search rules
 
-pub offset-bounds-cells-start : goal.offset-bounds-cells-start
-offset-bounds-cells-start c = let e = found_inside c.args.self.now c.args.table c.in-Some.head c.args.row c.in-Some.ensures c.if-row-head.false in search rules
+pub offset_bounds-cells-start : goal.offset_bounds-cells-start
+offset_bounds-cells-start c = let e = found_inside c.args.self.now c.args.table c.in-Some.head c.args.row c.in-Some.ensures c.if-row-head.false in search rules
 
-pub slice-bounds-result-end : goal.slice-bounds-result-end
-slice-bounds-result-end c = let e = found_inside c.args.self.now c.args.table c.in-Some.head c.args.row c.in-Some.ensures c.if-row-head.false in search rules
+pub slice_bounds-result-end : goal.slice_bounds-result-end
+slice_bounds-result-end c = let e = found_inside c.args.self.now c.args.table c.in-Some.head c.args.row c.in-Some.ensures c.if-row-head.false in search rules
 
 pub returns : goal.returns
 returns c =
