@@ -1,4 +1,6 @@
 // Aggregate functions: what any of them does, and the ones that every recorder has.
+#![tactic(auto)]
+
 mod columns;
 mod function;
 mod last;

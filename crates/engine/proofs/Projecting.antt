@@ -1,7 +1,7 @@
 -- The turns of the two loops that project.
 use Rattle.std.proofs.Common.{◌≡◌, ℕ, ◌+◌, ◌-◌, ◌*◌, ◌<◌, ◌≤◌, Bool, true, false, ◌||◌, List, [], ◌∷◌, ◌++◌, map, length, get_or, take, drop, set, None, sym, refl, ap, ◌∙◌, subst, ap₂, arith}
 use lib.Seq.{paste}
-use Rattle.std.specs.List.{AllByRecursion as All}
+use Rattle.std.specs.List.{AllByRecursion}
 use Rattle.std.proofs.lemmas.List.{map_push, take-take, take-map, take-append-drop, length-map, length-append, take_at, take_all, get_or-append_right}
 use Rattle.std.proofs.ByRecursion.{All-push}
 use Rattle.std.proofs.lemmas.List.Edits.{paste_more}
@@ -61,7 +61,7 @@ abbrev pub Blank : ℕ → List Cell → Type 0
 Blank n key = get_or key n None ≡ None
 
 -- keys whose answers are absent
-blank_groups : (n : ℕ) (rows : List (List Cell)) → All (Blank n) rows → map (group_in n) rows ≡ map unanswered (map (take n) rows)
+blank_groups : (n : ℕ) (rows : List (List Cell)) → AllByRecursion (Blank n) rows → map (group_in n) rows ≡ map unanswered (map (take n) rows)
 blank_groups n [] h = refl
 blank_groups n (r ∷ rs) h =
     ap₂ (λ (g : Group) gs. g ∷ gs) (ap (λ a. record { tuple = take n r; answer = a }) h.0) (blank_groups n rs h.1)
@@ -70,7 +70,7 @@ blank_groups n (r ∷ rs) h =
 pub record Projected (joins : List Join) (rows : List Cell) (width : ℕ) (new : List Cell) (count i : ℕ) : Type 0 where
   pub few : count ≤ i
   pub laid : tuples_in (length joins) count new ≡ distinct (map (tuple_of joins) (rows_in i width rows))
-  pub blank : All (Blank (length joins)) (rows_in count (length joins + 1) new)
+  pub blank : AllByRecursion (Blank (length joins)) (rows_in count (length joins + 1) new)
 
 module _ (joins : List Join) (rows : List Cell) (width : ℕ) where
   abbrev n : ℕ
@@ -129,5 +129,5 @@ module _ (joins : List Join) (rows : List Cell) (width : ℕ) where
       projected_new no' = record {
         few = omega (arith, so.few);
         laid = ap (map (take n)) keys_more ∙ map_push (take n) (rows_in count (n + 1) new) key ∙ rw (front) (sym (distinct_more ∙ rw (← so.laid, no')));
-        blank = subst (All (Blank n)) (sym keys_more) (All-push (Blank n) (rows_in count (n + 1) new) key so.blank last);
+        blank = subst (AllByRecursion (Blank n)) (sym keys_more) (All-push (Blank n) (rows_in count (n + 1) new) key so.blank last);
       }

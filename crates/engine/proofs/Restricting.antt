@@ -2,7 +2,7 @@
 use Rattle.std.proofs.Common.{◌≡◌, ℕ, zero, suc, ◌+◌, ◌-◌, ◌*◌, ◌%◌, ◌^◌, ◌<◌, ◌≤◌, true, false, cond, List, [], ◌∷◌, ◌++◌, length, get_or, take, drop, replicate, Some, None, Ok, Err, filter, Option, Result, sym, refl, ap, ◌∙◌, subst, zero-add, arith, length-append}
 use Rattle.std.specs.Option.{option_map}
 use lib.Seq.{paste}
-use Rattle.std.specs.List.{AllByRecursion as All}
+use Rattle.std.specs.List.{AllByRecursion}
 use Rattle.std.proofs.lemmas.List.{take_more, append-nil, take_at, take_all, drop_more, drop_all}
 use Rattle.std.proofs.lemmas.Nat.{mul-le}
 use Rattle.std.proofs.lemmas.List.Elements.{filter-append}
@@ -24,7 +24,7 @@ use Rattle.engine.proofs.RowsIn.{length_rows, rows_paste}
 pub record Shaped (o : Option Table) : Type 0 where
   pub six : columns_of o ≤ 6
   pub few : length (rows_of o) ≤ 1024
-  pub fit : All (RowFormed (columns_of o)) (rows_of o)
+  pub fit : AllByRecursion (RowFormed (columns_of o)) (rows_of o)
 
 pub shaped : (o : Option Table) → TableFormed o → Shaped o
 shaped None f = record { six = omega arith; few = omega arith; fit = tt }
@@ -147,5 +147,5 @@ module _ (ts ts0 : Tables) (block table i m m0 : ℕ) (same : ts ≡ ts0) (h : i
       let got = answer_err block table i row (ap (λ (o : Option Stored). in_block block (fetch_answer table i o)) (sym row_is) ∙ ap (in_block block) (sym r) ∙ sym b ∙ bad) in
       (got.0, got.1, meter_more me)
 
-pub row_wide : (rows : List Stored) (n i : ℕ) (cs : List Cell) → All (RowFormed n) rows → i < length rows → get_or rows i None ≡ Some cs → length cs ≡ n
+pub row_wide : (rows : List Stored) (n i : ℕ) (cs : List Cell) → AllByRecursion (RowFormed n) rows → i < length rows → get_or rows i None ≡ Some cs → length cs ≡ n
 row_wide rows n i cs fit h here = (subst (RowFormed n) here (All-get_or (RowFormed n) rows i None h fit)).wide

@@ -1,19 +1,14 @@
 -- A step on a region, as the state has it.
-use Rattle.std.proofs.Common.{◌≡◌, ℕ, zero, suc, ◌+◌, ◌-◌, ◌*◌, ◌%◌, ◌^◌, ◌<◌, ◌≤◌, List, [], ◌∷◌, length, get_or, set, Some, None, Ok, Err, Option, Result, sym, refl, ap, ◌∙◌, ap₂, arith}
+use Rattle.std.proofs.Common.{◌≡◌, ℕ, zero, suc, ◌<◌, List, [], ◌∷◌, length, get_or, set, sym, refl, ap, ◌∙◌, arith}
 use Rattle.terms.specs.declared.cells.WorkCell.{WorkCell}
-use Rattle.terms.specs.declared.faults.Fault.{Fault}
 use Rattle.terms.specs.Cells.{Cell, Row}
 use Rattle.sources.specs.Heads.{rows_in}
-use Rattle.terms.specs.Tables.{Stored}
-use Rattle.meaning.specs.Running.{State, Group, with_kept, with_groups}
-use Rattle.meaning.specs.Reading.{readable, first_unreadable, Going, on, stopped, unless_met}
-use Rattle.meaning.specs.Endings.{unreadable}
-use Rattle.engine.specs.declared.layout.Region.{Region}
+use Rattle.meaning.specs.Running.{Group, with_kept, with_groups}
 use Rattle.engine.specs.declared.layout.Layout.{Layout}
 use Rattle.engine.specs.declared.layout.Counts.{Counts}
 use Rattle.engine.specs.Rows.{values, groups_in}
 use Rattle.engine.specs.Regions.{inside, seen, end_of, SameApart, Laid, Within, region}
-use Rattle.engine.specs.Views.{held, view, left, stop_at}
+use Rattle.engine.specs.Views.{held, view}
 use Rattle.engine.proofs.Regions.{seen_changed, seen_long, put-seen}
 
 set_get_d : {A : Type 0} (xs : List A) (i : ℕ) (d : A) → set xs i (get_or xs i d) ≡ xs

@@ -1,5 +1,5 @@
 -- The loop over a plan's steps.
-use Rattle.std.proofs.Common.{◌≡◌, ℕ, zero, suc, ◌+◌, ◌-◌, ◌*◌, ◌%◌, ◌^◌, ◌<◌, ◌≤◌, Bool, true, false, not, ◌&&◌, ◌⊎◌, List, [], ◌∷◌, ◌++◌, length, get_or, take, drop, replicate, Ok, Err, fold, Result, sym, refl, ap, ◌∙◌, subst, ap₂, inl, inr, suc-mul, arith, length-drop, take-append-drop, length-take, take_all}
+use Rattle.std.proofs.Common.{◌≡◌, ℕ, zero, suc, ◌+◌, ◌*◌, ◌%◌, ◌^◌, ◌<◌, ◌≤◌, Bool, true, false, not, ◌⊎◌, List, [], ◌∷◌, ◌++◌, length, get_or, take, drop, replicate, Ok, Err, fold, Result, sym, refl, ap, ◌∙◌, ap₂, inl, inr, suc-mul, arith, take-append-drop, length-take, take_all}
 use mathlib.Core.Path.{fun_ext}
 use Rattle.std.specs.List.{flat_map}
 use Rattle.std.proofs.lemmas.List.{drop_all}
@@ -7,7 +7,7 @@ use Rattle.std.proofs.lemmas.List.Sums.{fold_more}
 use Rattle.std.proofs.lemmas.Bool.{and_parts, cases_lt, true≢false}
 use Rattle.terms.specs.declared.cells.WorkCell.{WorkCell}
 use Rattle.terms.specs.declared.faults.Fault.{Fault}
-use Rattle.terms.specs.Cells.{Cell, Row}
+use Rattle.terms.specs.Cells.{Cell}
 use Rattle.sources.specs.Heads.{rows_in}
 use Rattle.terms.specs.Tables.{Tables}
 use Rattle.queries.specs.declared.steps.Step.{Step}

@@ -4,8 +4,7 @@ use lib.Seq.{paste}
 use Rattle.std.proofs.lemmas.List.{take-map, drop-map, map-append, map-set, get_or-map, length-map}
 use Rattle.std.proofs.lemmas.List.Edits.{paste_more}
 use Rattle.terms.specs.declared.cells.WorkCell.{WorkCell}
-use Rattle.terms.specs.Cells.{Cell, same}
-use Rattle.meaning.specs.Rows.{cell}
+use Rattle.terms.specs.Cells.{Cell}
 use Rattle.engine.specs.Rows.{value_of, values}
 
 abbrev pub absent : WorkCell

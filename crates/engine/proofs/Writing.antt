@@ -1,5 +1,5 @@
 -- The turns of the loop that writes rows out.
-use Rattle.std.proofs.Common.{◌≡◌, ℕ, ◌+◌, ◌-◌, ◌*◌, ◌≤◌, List, map, length, drop, sym, ap, ◌∙◌, arith}
+use Rattle.std.proofs.Common.{◌≡◌, ℕ, ◌+◌, ◌*◌, ◌≤◌, List, map, length, drop, sym, ap, ◌∙◌, arith}
 use lib.Seq.{paste}
 use Rattle.std.proofs.lemmas.List.{take_all}
 use Rattle.terms.specs.Cells.{Cell}

@@ -6,7 +6,6 @@ use Rattle.meaning.specs.Checks.{parent_of}
 use Rattle.engine.specs.declared.layout.Extent.{Extent}
 use Rattle.engine.specs.declared.layout.Region.{Region}
 use Rattle.engine.specs.declared.layout.Layout.{Layout}
-use Rattle.engine.specs.Regions.{region, Laid}
 
 abbrev pub no_extent : Extent
 no_extent = record { rows = 0; width = 0 }

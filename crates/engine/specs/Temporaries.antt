@@ -1,5 +1,5 @@
 -- What each step does to the temporaries, whatever stands in the memory that it does not see.
-use Rattle.std.specs.Prelude.{◌≡◌, ℕ, suc, ◌+◌, List, length, Result}
+use Rattle.std.specs.Prelude.{◌≡◌, ℕ, ◌+◌, List, length, Result}
 use Rattle.terms.specs.declared.cells.WorkCell.{WorkCell}
 use Rattle.terms.specs.declared.comparisons.Comparison.{Comparison}
 use Rattle.terms.specs.declared.faults.Fault.{Fault}

@@ -1,10 +1,10 @@
 -- The state that work memory stands for, and what a step over it comes to.
-use Rattle.std.specs.Prelude.{◌≡◌, ℕ, suc, ◌+◌, ◌*◌, ◌%◌, ◌^◌, ◌<◌, ◌≤◌, Bool, true, false, not, ◌&&◌, List, [], ◌∷◌, length, drop, Ok, Err, Result, ◌==◌, nat_lt, slice_index_or}
+use Rattle.std.specs.Prelude.{◌≡◌, ℕ, suc, ◌+◌, ◌*◌, ◌%◌, ◌^◌, ◌<◌, Bool, true, false, not, ◌&&◌, List, [], ◌∷◌, length, drop, Ok, Err, Result, ◌==◌, nat_lt, slice_index_or}
 use Rattle.terms.specs.declared.cells.WorkCell.{WorkCell}
 use Rattle.terms.specs.declared.faults.Fault.{Fault}
 use Rattle.terms.specs.Cells.{Cell}
 use Rattle.sources.specs.Heads.{rows_in}
-use Rattle.terms.specs.Tables.{Tables, rows_of, columns_of}
+use Rattle.terms.specs.Tables.{Tables, columns_of}
 use Rattle.queries.specs.declared.steps.Step.{Step}
 use Rattle.queries.specs.declared.steps.Step.TheVariants as step
 use Rattle.meaning.specs.Aggregates.{Meaning}

@@ -1,4 +1,6 @@
 // The engine: a plan's steps over lent memory, and the calls that run queries.
+#![tactic(auto)]
+
 mod filter;
 mod group;
 mod layout;

@@ -77,14 +77,14 @@ pub(crate) fn restrict<S: Source>(
     width: usize,
     cells: &mut [WorkCell],
 ) -> Result<usize, Fault>
-    requires meter { reads source.old < 2 ^ 64 }
-    requires count { count ≡ length (rows_of (tables source.old table)) }
-    requires width { width ≡ columns_of (tables source.old table) }
+    requires meter { S.reads source.old < 2 ^ 64 }
+    requires count { count ≡ length (rows_of (S.tables source.old table)) }
+    requires width { width ≡ columns_of (S.tables source.old table) }
     requires room { count * width ≤ length cells.old }
-    ensures tables { tables source.new ≡ tables source.old }
-    ensures meter { reads source.new ≡ (reads source.old + fetched_until (first_unreadable (rows_of (tables source.old table))) count) % 2 ^ 64 }
-    ensures answer { result ≡ restrict_answer block table (filter (tests_true tests.now) (readable (rows_of (tables source.old table)))) (first_unreadable (rows_of (tables source.old table))) }
-    ensures rows { elim result [ Ok n ↦ (rows_in n width (values cells.new) ≡ filter (tests_true tests.now) (readable (rows_of (tables source.old table)))) × (n ≤ count) | Err f ↦ Unit {0} ] }
+    ensures tables { S.tables source.new ≡ S.tables source.old }
+    ensures meter { S.reads source.new ≡ (S.reads source.old + fetched_until (first_unreadable (rows_of (S.tables source.old table))) count) % 2 ^ 64 }
+    ensures answer { result ≡ restrict_answer block table (filter (tests_true tests.now) (readable (rows_of (S.tables source.old table)))) (first_unreadable (rows_of (S.tables source.old table))) }
+    ensures rows { elim result [ Ok n ↦ (rows_in n width (values cells.new) ≡ filter (tests_true tests.now) (readable (rows_of (S.tables source.old table)))) × (n ≤ count) | Err f ↦ Unit {0} ] }
 {
     let mut row = [None; MAX_COLUMNS];
     let mut kept: usize = 0;

@@ -1,4 +1,6 @@
 // Plans: a finished sheet is translated into a flat plan.
+#![tactic(auto)]
+
 mod blocks;
 mod joining;
 mod plan;

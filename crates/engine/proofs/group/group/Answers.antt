@@ -13,8 +13,8 @@ loop-t-init g c = rows_done_none _ _ _
 pub part-tuple-requires : goal.part-tuple-requires
 part-tuple-requires g c = record { within = omega (arith, row_within c.loop-t.t c.args.tuples (length c.args.joins.now + 1) _ c.loop-t-test.true c.requires.keys) }
 
-pub offset-bounds-keys-at : goal.offset-bounds-keys-at
-offset-bounds-keys-at g c = let h = row_within c.loop-t.t c.args.tuples (length c.args.joins.now + 1) _ c.loop-t-test.true c.requires.keys in search rules
+pub offset_bounds-keys-at : goal.offset_bounds-keys-at
+offset_bounds-keys-at g c = let h = row_within c.loop-t.t c.args.tuples (length c.args.joins.now + 1) _ c.loop-t-test.true c.requires.keys in search rules
 
 pub bounds-keys-at : goal.bounds-keys-at
 bounds-keys-at g c = omega (arith, row_within c.loop-t.t c.args.tuples (length c.args.joins.now + 1) _ c.loop-t-test.true c.requires.keys)
@@ -23,7 +23,7 @@ pub loop-t-preserved : goal.loop-t-preserved
 loop-t-preserved g c =
     let joins = c.args.joins.now in
     let answer = group_over g.A.AggregateFunction.meaning joins c.args.aggregate (rows_in c.args.kept c.args.width (values c.args.rows.now)) in
-    groups_more answer (length joins) c.loop-t.t (values c.args.keys.now) c.loop-t.keys c.loop-t.invariant c.part-tuple.ensures.value c.group-one-answer.ensures.value
+    groups_more answer (length joins) c.loop-t.t (values c.args.keys.now) c.loop-t.keys c.loop-t.invariant c.part-tuple.ensures.value c.group_one-answer.ensures.value
 
 pub returns : goal.returns
 returns g c =

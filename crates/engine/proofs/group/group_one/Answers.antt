@@ -5,14 +5,14 @@ use Rattle.engine.proofs.RowsIn.{row_within, next_row}
 use Rattle.engine.proofs.Ranging.{row_ranged}
 use Rattle.engine.proofs.Grouping.{group_more_yes, group_more_no, group_all}
 use Rattle.engine.proofs.group.group_one.Goals as goal
-use Rattle.engine.proofs.group.group_one.Goals.{then-joins-true, else-joins-true}
+use Rattle.engine.proofs.group.group_one.Goals.{then-joins_true, else-joins_true}
 
-pub row-at-row-requires : goal.row-at-row-requires
-row-at-row-requires g c = record { within = omega (arith, row_within c.loop-i.i c.args.kept c.args.width _ c.loop-i-test.true c.requires.rows, next_row c.loop-i.i c.args.width) }
+pub row_at-row-requires : goal.row_at-row-requires
+row_at-row-requires g c = record { within = omega (arith, row_within c.loop-i.i c.args.kept c.args.width _ c.loop-i-test.true c.requires.rows, next_row c.loop-i.i c.args.width) }
 
 pub brought-requires : goal.brought-requires
 brought-requires g c = record {
-  ranged = ap (every cell_in_range) c.row-at-row.ensures.value ∙ row_ranged c.args.kept c.args.width (values c.args.rows.now) c.loop-i.i c.loop-i-test.true c.requires.ranged;
+  ranged = ap (every cell_in_range) c.row_at-row.ensures.value ∙ row_ranged c.args.kept c.args.width (values c.args.rows.now) c.loop-i.i c.loop-i-test.true c.requires.ranged;
 }
 
 pub loop-i-preserved : goal.loop-i-preserved
@@ -21,9 +21,9 @@ loop-i-preserved g c =
     let joins = c.args.joins.now in
     let tuple = values c.args.tuple.now in
     let rows = values c.args.rows.now in
-    elim c.if-joins-true.branch [
-      | then-joins-true w ↦ group_more_yes m joins c.args.aggregate tuple c.args.width rows c.loop-i.i w.brought.result c.row-at-row.ensures.value w.if-joins-true.ensures.value c.loop-i.invariant w.total-is w.step-total.ensures w.brought.ensures.value
-      | else-joins-true w ↦ group_more_no m joins c.args.aggregate tuple c.args.width rows c.loop-i.i c.row-at-row.ensures.value w.if-joins-true.ensures.value c.loop-i.invariant w.total-is
+    elim c.if-joins_true.branch [
+      | then-joins_true w ↦ group_more_yes m joins c.args.aggregate tuple c.args.width rows c.loop-i.i w.brought.result c.row_at-row.ensures.value w.if-joins_true.ensures.value c.loop-i.invariant w.total-is w.step-total.ensures w.brought.ensures.value
+      | else-joins_true w ↦ group_more_no m joins c.args.aggregate tuple c.args.width rows c.loop-i.i c.row_at-row.ensures.value w.if-joins_true.ensures.value c.loop-i.invariant w.total-is
     ]
 
 pub returns : goal.returns

@@ -11,23 +11,23 @@ use Rattle.engine.proofs.output.output.Goals as goal
 pub loop-i-init : goal.loop-i-init
 loop-i-init c = record { front = refl; back = refl }
 
-pub row-at-row-requires : goal.row-at-row-requires
-row-at-row-requires c = record { within = omega (arith, row_within c.loop-i.i c.args.kept c.args.width _ c.loop-i-test.true c.requires.rows, next_row c.loop-i.i c.args.width) }
+pub row_at-row-requires : goal.row_at-row-requires
+row_at-row-requires c = record { within = omega (arith, row_within c.loop-i.i c.args.kept c.args.width _ c.loop-i-test.true c.requires.rows, next_row c.loop-i.i c.args.width) }
 
-pub write-row-requires : goal.write-row-requires
-write-row-requires c =
+pub write_row-requires : goal.write_row-requires
+write_row-requires c =
     let i = c.loop-i.i in
     let kept = c.args.kept in
     record {
       room = omega (arith, row_within i kept (length c.args.outputs.now) _ c.loop-i-test.true c.requires.room);
-      ranged = ap (every cell_in_range) c.row-at-row.ensures.value ∙ row_ranged kept c.args.width (values c.args.rows.now) i c.loop-i-test.true c.requires.ranged;
+      ranged = ap (every cell_in_range) c.row_at-row.ensures.value ∙ row_ranged kept c.args.width (values c.args.rows.now) i c.loop-i-test.true c.requires.ranged;
     }
 
 pub loop-i-preserved : goal.loop-i-preserved
 loop-i-preserved c =
     let outs = c.args.outputs.now in
-    let row = values c.row-at-row.result.now in
-    written_more (cells outs) (length outs) c.args.width (values c.args.rows.now) c.args.res.now c.loop-i.result c.loop-i.i c.loop-i.invariant c.row-at-row.ensures.value c.write-row.ensures.cells
+    let row = values c.row_at-row.result.now in
+    written_more (cells outs) (length outs) c.args.width (values c.args.rows.now) c.args.res.now c.loop-i.res c.loop-i.i c.loop-i.invariant c.row_at-row.ensures.value c.write_row.ensures.cells
     (length-map outs (λ (k : ℕ). cell k row))
     (omega (arith, row_within c.loop-i.i c.args.kept (length outs) _ c.loop-i-test.true c.requires.room))
 

@@ -16,8 +16,8 @@ loop-i-preserved c =
     let row = values c.args.row.now in
     let i = c.loop-i.i in
     let cell = get_or-map (λ (k : ℕ). cell k row) outputs i 0 None c.loop-i-test.true in
-    ap₂ (λ v x. set v (c.args.at + i) x) c.loop-i.invariant (c.narrowed.ensures.value ∙ c.cell-at.ensures.value ∙ sym cell)
+    ap₂ (λ v x. set v (c.args.at + i) x) c.loop-i.invariant (c.narrowed.ensures.value ∙ c.cell_at.ensures.value ∙ sym cell)
     ∙ paste_more c.args.res.now c.args.at (cells outputs row) i None (omega arith) (rw length-map c.loop-i-test.true)
 
 pub narrowed-requires : goal.narrowed-requires
-narrowed-requires c = record { ranged = ap cell_in_range c.cell-at.ensures.value ∙ cell_ranged _ (values c.args.row.now) c.requires.ranged }
+narrowed-requires c = record { ranged = ap cell_in_range c.cell_at.ensures.value ∙ cell_ranged _ (values c.args.row.now) c.requires.ranged }

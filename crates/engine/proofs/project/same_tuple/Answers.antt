@@ -5,13 +5,13 @@ use Rattle.engine.proofs.Loops.{same_no, same_yes, same_all}
 use Rattle.engine.proofs.Values.{length-values, values_at}
 use Rattle.engine.proofs.project.same_tuple.Goals as goal
 
-pub returns-then-not-same-cell : goal.returns-then-not-same-cell
-returns-then-not-same-cell c =
+pub returns-then-not-same_cell : goal.returns-then-not-same_cell
+returns-then-not-same_cell c =
     let tuple = c.args.tuple.now in
     let long : length (values tuple) ≡ length c.args.joins.now = length-values tuple ∙ c.requires.tuple in
     record {
       value = same_no c.args.joins.now (values c.args.row.now) (values tuple) c.loop-i.i long c.loop-i-test.true c.loop-i.invariant _
-          (ap₂ same (sym c.cell-at.ensures.value) (values_at tuple c.loop-i.i (omega arith)) ∙ sym c.if-not-same-cell.ensures);
+          (ap₂ same (sym c.cell_at.ensures.value) (values_at tuple c.loop-i.i (omega arith)) ∙ sym c.if-not-same_cell.ensures);
     }
 
 pub loop-i-preserved : goal.loop-i-preserved
@@ -19,7 +19,7 @@ loop-i-preserved c =
     let tuple = c.args.tuple.now in
     let long : length (values tuple) ≡ length c.args.joins.now = length-values tuple ∙ c.requires.tuple in
     same_yes c.args.joins.now (values c.args.row.now) (values tuple) c.loop-i.i long c.loop-i-test.true c.loop-i.invariant _
-    (ap₂ same (sym c.cell-at.ensures.value) (values_at tuple c.loop-i.i (omega arith)) ∙ sym c.if-not-same-cell.ensures)
+    (ap₂ same (sym c.cell_at.ensures.value) (values_at tuple c.loop-i.i (omega arith)) ∙ sym c.if-not-same_cell.ensures)
 
 pub returns : goal.returns
 returns c =

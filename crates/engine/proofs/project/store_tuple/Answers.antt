@@ -16,4 +16,4 @@ loop-i-preserved c =
     let joins = c.args.joins.now in
     let row = values c.args.row.now in
     let cell = get_or-map (λ (l : Join). cell l.parent row) joins c.loop-i.i _ None c.loop-i-test.true in
-    stored_more c.args.keys.now c.loop-i.keys c.args.at c.loop-i.i (tuple_of joins row) _ c.loop-i.invariant (omega arith) (rw length-map c.loop-i-test.true) (cell ∙ sym c.cell-at.ensures.value)
+    stored_more c.args.keys.now c.loop-i.keys c.args.at c.loop-i.i (tuple_of joins row) _ c.loop-i.invariant (omega arith) (rw length-map c.loop-i-test.true) (cell ∙ sym c.cell_at.ensures.value)

@@ -9,13 +9,13 @@ use Rattle.engine.specs.Rows.{values}
 use Rattle.engine.proofs.Values.{length-values}
 use Rattle.engine.proofs.Restricting.{Restricted, shaped, restricted_none, restricted_no, restricted_yes, restricted_count, restricted_stops, restricted_ends, turn_ok, turn_err, row_wide}
 use Rattle.engine.proofs.restrict.restrict.Goals as goal
-use Rattle.engine.proofs.restrict.restrict.Goals.{then-tests-true, else-tests-true}
+use Rattle.engine.proofs.restrict.restrict.Goals.{then-tests_true, else-tests_true}
 
 pub loop-i-init : goal.loop-i-init
 loop-i-init g c = (refl, omega arith, restricted_none _ _ _ _)
 
-pub returns-in-err-in-block : goal.returns-in-err-in-block
-returns-in-err-in-block g c =
+pub returns-in_err-in_block : goal.returns-in_err-in_block
+returns-in_err-in_block g c =
     let s = g.S.Source in
     let table = c.args.table in
     let i = c.loop-i.i in
@@ -23,9 +23,9 @@ returns-in-err-in-block g c =
     let rows = rows_of (s.tables s0 table) in
     let inv = c.loop-i.invariant in
     let h : i < length rows = omega (arith, c.requires.count, c.loop-i-test.true) in
-    let turn = turn_err (s.tables c.loop-i.source) (s.tables s0) c.args.block table i (s.reads c.loop-i.source) (s.reads s0) inv.0 h inv.1 c.fetch.ensures.answer c.in-block.ensures c.in-err-in-block.was c.fetch.ensures.meter in
+    let turn = turn_err (s.tables c.loop-i.source) (s.tables s0) c.args.block table i (s.reads c.loop-i.source) (s.reads s0) inv.0 h inv.1 c.fetch.ensures.answer c.in_block.ensures c.in_err-in_block.was c.fetch.ensures.meter in
     let stop = restricted_stops c.args.width c.args.tests.now rows (values c.loop-i.cells) c.loop-i.kept i inv.2 h turn.0 in
-    let p = err_from_is_err_and c.from-residual.result c.from-residual.ensures.1 in
+    let p = err_from_is_err_and c.from_residual.result c.from_residual.ensures.1 in
     record {
       tables = c.fetch.ensures.tables ∙ inv.0;
       meter = turn.2 ∙ ap (λ k. (s.reads s0 + k) % 2 ^ 64) (add-one i) ∙ ap (λ o. (s.reads s0 + fetched_until o c.args.count) % 2 ^ 64) (sym stop);
@@ -55,14 +55,14 @@ loop-i-preserved g c =
     let is = shaped _ ((s.formed s0).each_table table) in
     let inv = c.loop-i.invariant in
     let h : i < length rows = omega (arith, c.requires.count, c.loop-i-test.true) in
-    let turn = turn_ok (s.tables c.loop-i.source) (s.tables s0) c.args.block table i (s.reads c.loop-i.source) (s.reads s0) inv.0 h inv.1 c.fetch.ensures.answer c.in-block.ensures c.in-ok-in-block.was c.fetch.ensures.cells c.fetch.ensures.meter in
+    let turn = turn_ok (s.tables c.loop-i.source) (s.tables s0) c.args.block table i (s.reads c.loop-i.source) (s.reads s0) inv.0 h inv.1 c.fetch.ensures.answer c.in_block.ensures c.in_ok-in_block.was c.fetch.ensures.cells c.fetch.ensures.meter in
     let cs = turn.0 in
     let wide = row_wide rows (columns_of (s.tables s0 table)) i cs is.fit h turn.1.0 ∙ sym c.requires.width in
     let new = c.loop-i.cells in
     let room : length rows * width ≤ length (values new) = rw (length-values, ← c.requires.count) (omega arith) in
-    let so : Restricted width tests rows (values c.if-tests-true.cells) c.if-tests-true.kept (i + 1) = elim c.if-tests-true.branch [
-      | then-tests-true w ↦ rw w.kept-is (restricted_yes width tests rows (values new) c.loop-i.kept i inv.2 cs h turn.1.0 c.fetch.new.place turn.1.1 w.if-tests-true.ensures.value wide room (ap values w.cells-is ∙ w.store.ensures.cells))
-      | else-tests-true w ↦ rw (w.cells-is, w.kept-is) (restricted_no width tests rows (values new) c.loop-i.kept i inv.2 cs h turn.1.0 c.fetch.new.place turn.1.1 w.if-tests-true.ensures.value)
+    let so : Restricted width tests rows (values c.if-tests_true.cells) c.if-tests_true.kept (i + 1) = elim c.if-tests_true.branch [
+      | then-tests_true w ↦ rw w.kept-is (restricted_yes width tests rows (values new) c.loop-i.kept i inv.2 cs h turn.1.0 c.fetch.new.place turn.1.1 w.if-tests_true.ensures.value wide room (ap values w.cells-is ∙ w.store.ensures.cells))
+      | else-tests_true w ↦ rw (w.cells-is, w.kept-is) (restricted_no width tests rows (values new) c.loop-i.kept i inv.2 cs h turn.1.0 c.fetch.new.place turn.1.1 w.if-tests_true.ensures.value)
     ] in
     (c.fetch.ensures.tables ∙ inv.0, turn.1.2, so)
 
