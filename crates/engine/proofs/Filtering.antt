@@ -75,15 +75,15 @@ module _ (test : List Cell → Bool) (w : ℕ) (old : List Cell) where
     }
 
     pub filtered_yes : {after : List Cell} → after ≡ paste new (left * w) (drop (i * w) new) w → true ≡ test row → i * w + w ≤ length new → Filtered test w old after (left + 1) (i + 1)
-    filtered_yes {after} is-pasted yes' fits =
+    filtered_yes {after} is_pasted yes' fits =
         let s = drop (i * w) new in
         let below : left * w ≤ i * w = mul-le left w i w so.behind (omega arith) in
         let room : left * w + w ≤ length new = omega arith in
         let long : w ≤ length s = rw length-drop (omega arith) in
         let far : (i + 1) * w ≡ left * w + w + (i * w - left * w) = omega (arith, next_row i w) in
         record {
-          front = ap (rows_in (left + 1) w) is-pasted ∙ rows_paste w left new s room long ∙ sym (kept_more ∙ rw (← so.front, ← yes', ← is));
-          back = ap (drop ((i + 1) * w)) is-pasted ∙ ap (λ m. drop m (paste new (left * w) s w)) far ∙ sym (drop-drop (i * w - left * w) (left * w + w) (paste new (left * w) s w)) ∙ ap (drop (i * w - left * w)) (drop-paste new (left * w) s w (omega arith) long) ∙ drop-drop (i * w - left * w) (left * w + w) new ∙ ap (λ m. drop m new) (sym far) ∙ back_more;
+          front = ap (rows_in (left + 1) w) is_pasted ∙ rows_paste w left new s room long ∙ sym (kept_more ∙ rw (← so.front, ← yes', ← is));
+          back = ap (drop ((i + 1) * w)) is_pasted ∙ ap (λ m. drop m (paste new (left * w) s w)) far ∙ sym (drop-drop (i * w - left * w) (left * w + w) (paste new (left * w) s w)) ∙ ap (drop (i * w - left * w)) (drop-paste new (left * w) s w (omega arith) long) ∙ drop-drop (i * w - left * w) (left * w + w) new ∙ ap (λ m. drop m new) (sym far) ∙ back_more;
           behind = omega (arith, so.behind);
         }
 

@@ -143,14 +143,14 @@ module _ {Total : Type 0} (house : Meaning Total) (tables : Tables) (p : Plan) w
             rest = rest ∙ ap (drop (k' * length p.outputs)) (so.before h).0;
           }
 
-      module _ (q : Query) (is-plan : p ≡ plan q) where
+      module _ (q : Query) (is_plan : p ≡ plan q) where
         stopped_is : (x : Stop) → stopped x ≡ gone (i + 1) → Err x ≡ answers tables house q
         stopped_is x e =
             sym (ap outcome (stays tables house p (drop (i + 1) steps) x))
             ∙ ap (λ g. outcome (fold (go p tables house) g (drop (i + 1) steps))) e
             ∙ ap outcome (sym (folded_append (go p tables house) (on nothing) (take (i + 1) steps) (drop (i + 1) steps)))
             ∙ ap (λ ss. outcome (fold (go p tables house) (on nothing) ss)) (take-append-drop (i + 1) steps)
-            ∙ ap (λ r. ran r tables house) is-plan
+            ∙ ap (λ r. ran r tables house) is_plan
             ∙ flat_is_nested tables house q
 
         -- a step that was refused
@@ -167,11 +167,11 @@ module _ {Total : Type 0} (house : Meaning Total) (tables : Tables) (p : Plan) w
   -- after all steps
   pub turned_all : (q : Query) → p ≡ plan q → (i m0 m : ℕ) (layout : Layout) (counts : Counts) (rows tuples : List WorkCell) (old new : List Cell) → length p.steps ≤ i → length new ≡ length old
       → Turned (view layout (length p.outputs) (held counts rows tuples new)) m0 m counts.written i old new → Ran tables house q m0 m old new (Ok counts.written)
-  turned_all q is-plan i m0 m layout counts rows tuples old new h long so =
+  turned_all q is_plan i m0 m layout counts rows tuples old new h long so =
       let n = reads_in (gone i) in
       let s = view layout w (held counts rows tuples new) n in
       let to : outcome (on s) ≡ answers tables house q =
-      ap outcome (so.sees ∙ ap (fold (go p tables house) (on nothing)) (take_all i steps h)) ∙ ap (λ r. ran r tables house) is-plan ∙ flat_is_nested tables house q in
+      ap outcome (so.sees ∙ ap (fold (go p tables house) (on nothing)) (take_all i steps h)) ∙ ap (λ r. ran r tables house) is_plan ∙ flat_is_nested tables house q in
       record {
         told = ap Ok (sym (length_rows counts.written w new)) ∙ ap (λ a. ending_answer (read_to a)) to;
         reads = so.meter ∙ ap (λ a. reads_after (read_to a) m0) to;

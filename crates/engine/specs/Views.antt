@@ -47,9 +47,9 @@ pub record Suits (tables : Tables) (p : Plan) (layout : Layout) (b : ℕ) : Type
   pub tuple_room : 0 < b → (region layout.tuples b).room ≡ (region layout.kept (parent_of p b)).room
 
 -- the regions lie apart
-pub record Placed (layout : Layout) (rows-len tuples-len : ℕ) : Type 0 where
-  pub kept : Laid 0 rows-len layout.kept
-  pub tuples : Laid 0 tuples-len layout.tuples
+pub record Placed (layout : Layout) (rows_len tuples_len : ℕ) : Type 0 where
+  pub kept : Laid 0 rows_len layout.kept
+  pub tuples : Laid 0 tuples_len layout.tuples
   pub four_kept : length layout.kept ≡ 4
   pub four_tuples : length layout.tuples ≡ 4
 

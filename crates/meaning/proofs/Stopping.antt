@@ -36,9 +36,9 @@ or_later None later = later
 or_later (Some x) later = Some x
 
 -- the blocks as the plan reads them
-abbrev flat-visits : ℕ → List Flat → List Visit
-flat-visits b [] = []
-flat-visits b (f ∷ fs) = flat-visits (suc b) fs ++ (record { block = b; table = f.table } ∷ [])
+abbrev flat_visits : ℕ → List Flat → List Visit
+flat_visits b [] = []
+flat_visits b (f ∷ fs) = flat_visits (suc b) fs ++ (record { block = b; table = f.table } ∷ [])
 
 pub same_table : (b : Inner) (n : Nest) → (translated_as b n).table ≡ b.table
 same_table b (Aggregated operand comparison aggregate) = refl
@@ -48,7 +48,7 @@ same_table b NotExists = refl
 same_table b (Any operand comparison inner) = refl
 same_table b (All operand comparison inner) = refl
 
-same-visits : (is : List Inner) (b : ℕ) → flat-visits b (map translated is) ≡ inner_visits b is
+same-visits : (is : List Inner) (b : ℕ) → flat_visits b (map translated is) ≡ inner_visits b is
 same-visits [] b = refl
 same-visits (i ∷ is) b =
     ap (λ vs. vs ++ (record { block = b; table = (translated i).table } ∷ [])) (same-visits is (suc b))
@@ -85,11 +85,11 @@ module _ (tables : Tables) where
       go (Some i) h = cc
 
   -- where no unreadable row is met every stored row is read
-  restricted_reads : {Total : Type 0} (house : Meaning Total) (fs : List Flat) (b : ℕ) (s : State) → first_met tables (flat-visits b fs) s.reads ≡ None → (restricted (contents tables) house b fs s).reads ≡ s.reads + sum_by rows_at (flat-visits b fs)
+  restricted_reads : {Total : Type 0} (house : Meaning Total) (fs : List Flat) (b : ℕ) (s : State) → first_met tables (flat_visits b fs) s.reads ≡ None → (restricted (contents tables) house b fs s).reads ≡ s.reads + sum_by rows_at (flat_visits b fs)
   restricted_reads house [] b s h = omega arith
   restricted_reads house (f ∷ fs) b s h =
       let v : Visit = record { block = b; table = f.table } in
-      let vs : List Visit = flat-visits (suc b) fs in
+      let vs : List Visit = flat_visits (suc b) fs in
       let none = unmet _ _ (sym (met-push vs v s.reads) ∙ h) in
       let there : length (readable (stored tables f.table)) ≡ length (stored tables f.table) = all_there _ (all_readable v _ none.1) in
       let before = restricted_reads house fs (suc b) s none.0 in
@@ -120,11 +120,11 @@ module _ (tables : Tables) where
         ∙ ap (unless_met (first_unreadable (stored tables f.table)) b f.table n) steps
         ∙ unless_met_is (record { block = b; table = f.table }) (first_unreadable (stored tables f.table)) n (restrict before b f.tests (db f.table))
 
-    restricts-go : (fs : List Flat) (b : ℕ) (s : State) → Placed p b fs → fold (go p tables house) (on s) (restricts b fs) ≡ carried (first_met tables (flat-visits b fs) s.reads) (restricted db house b fs s)
+    restricts-go : (fs : List Flat) (b : ℕ) (s : State) → Placed p b fs → fold (go p tables house) (on s) (restricts b fs) ≡ carried (first_met tables (flat_visits b fs) s.reads) (restricted db house b fs s)
     restricts-go [] b s places = refl
     restricts-go (f ∷ fs) b s places =
         let v : Visit = record { block = b; table = f.table } in
-        let vs : List Visit = flat-visits (suc b) fs in
+        let vs : List Visit = flat_visits (suc b) fs in
         let before : State = restricted db house (suc b) fs s in
         folded_append (go p tables house) (on s) (restricts (suc b) fs) (Restrict b b ∷ [])
         ∙ ap (λ g. go p tables house g (Restrict b b)) (restricts-go fs (suc b) s places.3)
@@ -157,7 +157,7 @@ module _ {Total : Type 0} (tables : Tables) (house : Meaning Total) (q : Query) 
   steps_split : (plan q).steps ≡ restricts 0 (outer ∷ flats) ++ last
   steps_split = sym (append_assoc (restricts 1 flats) (Restrict 0 0 ∷ []) last)
 
-  visits_are : flat-visits 0 (outer ∷ flats) ≡ visits q
+  visits_are : flat_visits 0 (outer ∷ flats) ≡ visits q
   visits_are = ap (λ vs. vs ++ (record { block = 0; table = q.table } ∷ [])) (same-visits q.inner 1)
 
   -- the steps after RESTRICT

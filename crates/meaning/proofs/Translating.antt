@@ -67,9 +67,9 @@ module _ {Total : Type 0} (db : Contents) (house : Meaning Total) where
   flat_true f inside row =
       holds f.comparison (operand_of f.operand row) (aggregated house f.aggregate (joining (db f.table) f.tests f.joins inside row))
 
-  abbrev pub flat-judged : List Flat → Row → Bool
-  flat-judged [] row = true
-  flat-judged (f ∷ fs) row = flat_true f (flat-judged fs) row
+  abbrev pub flat_judged : List Flat → Row → Bool
+  flat_judged [] row = true
+  flat_judged (f ∷ fs) row = flat_true f (flat_judged fs) row
 
   by_any : (b : Inner) (operand : ℕ) (comparison : Comparison) (inner : ℕ) (inside : Row → Bool) (row : Row) → flat_true (flat_any b operand comparison inner) inside row ≡ some (λ r. holds comparison (cell operand row) (cell inner r)) (passing (db b.table) b.tests b.links inside row)
   by_any b operand comparison inner inside row =
@@ -94,8 +94,8 @@ module _ {Total : Type 0} (db : Contents) (house : Meaning Total) where
   one_test b (All operand comparison inner) inside row = by_aggregate b (Column operand) comparison (Of (extreme comparison) inner) inside row
 
   -- all the nested tests of a row, from the translated blocks and from the query's
-  pub same_judgement : (bs : List Inner) (row : Row) → flat-judged (map translated bs) row ≡ judged db house bs row
+  pub same_judgement : (bs : List Inner) (row : Row) → flat_judged (map translated bs) row ≡ judged db house bs row
   same_judgement [] row = refl
   same_judgement (b ∷ bs) row =
-      one_test b b.nest (flat-judged (map translated bs)) row
+      one_test b b.nest (flat_judged (map translated bs)) row
       ∙ ap (λ inside. nest_true house b.nest row (passing (db b.table) b.tests b.links inside row)) (fun_ext (same_judgement bs))

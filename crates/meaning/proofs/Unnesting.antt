@@ -14,7 +14,7 @@ use Rattle.meaning.specs.Running.{Group, State, nothing, put, restrict, tuple_of
 use Rattle.meaning.proofs.Lists.{and_swap, kept_all, kept_both, kept_same, kept_alike}
 use Rattle.meaning.proofs.Laws.{group_is_aggregate}
 use Rattle.meaning.proofs.Tuples.{own_tuple, answer_found}
-use Rattle.meaning.proofs.Translating.{joined, joins_of_tuple, joining, flat_true, flat-judged, same_judgement}
+use Rattle.meaning.proofs.Translating.{joined, joins_of_tuple, joining, flat_true, flat_judged, same_judgement}
 
 put_own : {X : Type 0} (f : ℕ → X) (n : ℕ) (x : X) → put f n x n ≡ x
 put_own f n x = cond-true (eqb n n) x (f n) (eq-eqb n n refl)
@@ -84,12 +84,12 @@ module _ {Total : Type 0} (db : Contents) (house : Meaning Total) where
 
   -- block p keeps the rows whose nested tests are true, and the blocks outside it are as they were
   abbrev Kept : List Flat → ℕ → State → State → Type 0
-  Kept fs p s t = (t.kept p ≡ kept_by (flat-judged db house fs) (s.kept p)) × ((q : ℕ) → q < p → t.kept q ≡ s.kept q)
+  Kept fs p s t = (t.kept p ≡ kept_by (flat_judged db house fs) (s.kept p)) × ((q : ℕ) → q < p → t.kept q ≡ s.kept q)
 
   unnested_keeps : (fs : List Flat) (p : ℕ) (s : State) → Loaded (suc p) fs s.kept → Kept fs p s (unnested p fs s)
   unnested_keeps [] p s loaded = (sym (kept_all (s.kept p)), λ q h. refl)
   unnested_keeps (f ∷ fs) p s loaded =
-      let inside : Row → Bool = flat-judged db house fs in
+      let inside : Row → Bool = flat_judged db house fs in
       let before : State = unnested (suc p) fs s in
       let ih : Kept fs (suc p) s before = unnested_keeps fs (suc p) s loaded.1 in
       let tuples : List Group = map unanswered (distinct (map (tuple_of f.joins) (before.kept p))) in

@@ -77,11 +77,11 @@ table_formed cells n h s e = record {
 
 module _ (heads : List TableHead) (cells : List Cell) (taken : bench_takes heads cells ≡ true) (ranged : every cell_in_range cells ≡ true) where
   none_outside : (n : ℕ) → ((h : TableHead) → Sound (length cells) n h → ⊥) → bench_tables heads cells n ≡ None
-  none_outside n no-head = go (head_for heads n) refl
+  none_outside n no_head = go (head_for heads n) refl
     where
       go : (o : Option TableHead) → head_for heads n ≡ o → option_map (head_table cells) o ≡ None
       go None q = refl
-      go (Some h) q = absurd (no-head h (sound_for heads cells n h taken q))
+      go (Some h) q = absurd (no_head h (sound_for heads cells n h taken q))
 
   formed_at : (n : ℕ) → TableFormed (bench_tables heads cells n)
   formed_at n = go (head_for heads n) refl

@@ -18,6 +18,6 @@ Bytes bytes = AllByRecursion (λ b. b < 256) bytes
 -- a table has one writing: where none of the rows that an image shows under a number is unreadable, the record that counts
 -- for the number is, byte for byte, the one that writing gives for the table
 abbrev pub WrittenOnce : List ℕ → ℕ → Option (List ℕ) → Type 0
-WrittenOnce image number record-found =
+WrittenOnce image number record_found =
     (columns : ℕ) (rows : List Row) → card_tables image number ≡ Some (record { columns = columns; rows = map Some rows })
-    → record-found ≡ Some (table_record number columns rows)
+    → record_found ≡ Some (table_record number columns rows)
