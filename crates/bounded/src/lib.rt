@@ -3,4 +3,4 @@
 
 mod list;
 
-pub use list::Bounded;
+pub use list::{Bounded, Full};

@@ -4,6 +4,9 @@ pub(crate) mod methods;
 
 // A list of at most N items that is held in place, so that it never asks for memory: the first `len` of `items` are
 // in use. What the contracts say of it is `listed`, the items in use.
+//
+// It is a buffer with a length beside it because the engine has no heap.
+#[derive(Copy)]
 pub struct Bounded<T: Copy, const N: usize> {
     items: [T; N],
     len: usize,
@@ -11,4 +14,6 @@ pub struct Bounded<T: Copy, const N: usize> {
     ghost fits: { len ≤ N },
 }
 
-impl<T: Copy, const N: usize> Copy for Bounded<T, N> {}
+// What a full list answers to one item more.
+#[derive(Clone, Copy, PartialEq, Eq, Debug)]
+pub struct Full;

@@ -8,7 +8,7 @@ use Rattle.terms.specs.declared.comparisons.Comparison.{Comparison}
 use Rattle.terms.specs.Comparisons.{holds}
 use Rattle.terms.specs.Cells.{Cell, Row}
 use Rattle.sources.specs.Heads.{rows_in}
-use Rattle.queries.specs.declared.steps.Join.{Join}
+use Rattle.queries.specs.declared.parts.Link.{Link}
 use Rattle.queries.specs.declared.steps.Operand.{Operand}
 use Rattle.meaning.specs.Rows.{alike}
 use Rattle.meaning.specs.Running.{Group, answer_for, unanswered, operand_of, passes, tuple_of}
@@ -88,6 +88,6 @@ module _ (test : List Cell → Bool) (w : ℕ) (old : List Cell) where
         }
 
 -- a row's test, as the code makes it
-pub row_passes : (groups : List Group) (joins : List Join) (operand : Operand) (comparison : Comparison) (row : Row) {b : Bool} {x y : Cell} → b ≡ holds comparison x y → x ≡ operand_of operand row → y ≡ answer_for groups (tuple_of joins row)
+pub row_passes : (groups : List Group) (joins : List Link) (operand : Operand) (comparison : Comparison) (row : Row) {b : Bool} {x y : Cell} → b ≡ holds comparison x y → x ≡ operand_of operand row → y ≡ answer_for groups (tuple_of joins row)
     → b ≡ passes groups joins operand comparison row
 row_passes groups joins operand comparison row e p q = e ∙ ap₂ (holds comparison) p q

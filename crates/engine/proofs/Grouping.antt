@@ -8,13 +8,13 @@ use Rattle.terms.specs.declared.cells.WorkCell.{WorkCell}
 use Rattle.terms.specs.Cells.{Cell, Row}
 use Rattle.sources.specs.Heads.{rows_in}
 use Rattle.queries.specs.declared.aggregates.Aggregate.{Aggregate}
-use Rattle.queries.specs.declared.steps.Join.{Join}
+use Rattle.queries.specs.declared.parts.Link.{Link}
 use Rattle.meaning.specs.Aggregates.{Meaning, Answer}
 use Rattle.meaning.specs.Running.{joins_true, brought, joined_cells, with_answer}
 use Rattle.engine.specs.Rows.{value_of, values, row_in, group_in, groups_in}
 use Rattle.engine.proofs.RowsIn.{RowsDone, length_row, row_within, kept_rows_more, map_rows, rows_done_more, part_of_row}
 
-module _ {Total : Type 0} (m : Meaning Total) (joins : List Join) (aggregate : Aggregate) (tuple : List Cell) (width : ℕ) (rows : List Cell) where
+module _ {Total : Type 0} (m : Meaning Total) (joins : List Link) (aggregate : Aggregate) (tuple : List Cell) (width : ℕ) (rows : List Cell) where
   abbrev pub so_far : ℕ → Total
   so_far n = fold m.step m.start (map (brought aggregate) (filter (joins_true joins tuple) (rows_in n width rows)))
 

@@ -8,7 +8,7 @@ use Rattle.std.proofs.lemmas.List.Edits.{paste_more}
 use Rattle.std.proofs.lemmas.List.Sums.{fold_push}
 use Rattle.terms.specs.Cells.{Cell}
 use Rattle.sources.specs.Heads.{rows_in}
-use Rattle.queries.specs.declared.steps.Join.{Join}
+use Rattle.queries.specs.declared.parts.Link.{Link}
 use Rattle.meaning.specs.Rows.{cell, alike, some}
 use Rattle.meaning.specs.Running.{Group, tuple_of, noted, distinct, unanswered}
 use Rattle.engine.specs.Rows.{row_in, group_in, groups_in}
@@ -67,12 +67,12 @@ blank_groups n (r ∷ rs) h =
     ap₂ (λ (g : Group) gs. g ∷ gs) (ap (λ a. record { tuple = take n r; answer = a }) h.0) (blank_groups n rs h.1)
 
 -- after i rows, with so many tuples
-pub record Projected (joins : List Join) (rows : List Cell) (width : ℕ) (new : List Cell) (count i : ℕ) : Type 0 where
+pub record Projected (joins : List Link) (rows : List Cell) (width : ℕ) (new : List Cell) (count i : ℕ) : Type 0 where
   pub few : count ≤ i
   pub laid : tuples_in (length joins) count new ≡ distinct (map (tuple_of joins) (rows_in i width rows))
   pub blank : AllByRecursion (Blank (length joins)) (rows_in count (length joins + 1) new)
 
-module _ (joins : List Join) (rows : List Cell) (width : ℕ) where
+module _ (joins : List Link) (rows : List Cell) (width : ℕ) where
   abbrev n : ℕ
   n = length joins
 
@@ -106,7 +106,7 @@ module _ (joins : List Join) (rows : List Cell) (width : ℕ) where
       key = p ++ None ∷ []
 
       long : length p ≡ n
-      long = length-map joins (λ (l : Join). cell l.parent row)
+      long = length-map joins (λ (l : Link). cell l.parent row)
 
       key_long : length key ≡ n + 1
       key_long = length-append p (None ∷ []) ∙ ap (λ k. k + 1) long

@@ -6,11 +6,11 @@ ghost use Rattle.engine.specs.Rows.{values, groups_in};
 
 use crate::project::same_tuple;
 use crate::rows::{cell_at, part, row_at};
-use queries::{Join, Operand};
+use queries::{Link, Operand};
 use terms::{Comparison, WorkCell};
 
 // The answer behind the tuple that is the row's own.
-fn find_answer(joins: &[Join], row: &[WorkCell], keys: &[WorkCell], tuples: usize) -> Option<i64>
+fn find_answer(joins: &[Link], row: &[WorkCell], keys: &[WorkCell], tuples: usize) -> Option<i64>
     requires keys { tuples * (length joins.now + 1) ≤ length keys.now }
     ensures value { result ≡ answer_for (groups_in tuples (length joins.now + 1) (values keys.now)) (tuple_of joins.now (values row.now)) }
 {
@@ -35,7 +35,7 @@ fn operand_of(operand: Operand, row: &[WorkCell]) -> Option<i64>
 
 // Keeps, in place and in order, the rows whose operand compares true with the answer of their tuple.
 pub(crate) fn filter(
-    joins: &[Join],
+    joins: &[Link],
     operand: Operand,
     comparison: Comparison,
     keys: &[WorkCell],

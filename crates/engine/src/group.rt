@@ -8,11 +8,11 @@ ghost use Rattle.engine.specs.Grouping.{group_over};
 
 use crate::rows::{cell_at, narrowed, part, row_at};
 use aggregates::AggregateFunction;
-use queries::{Aggregate, Function, Join};
+use queries::{Aggregate, Function, Link};
 use terms::{Cell, WorkCell};
 
 // Whether the join conditions of a row are true of a tuple.
-fn joins_true(joins: &[Join], tuple: &[WorkCell], row: &[WorkCell]) -> bool
+fn joins_true(joins: &[Link], tuple: &[WorkCell], row: &[WorkCell]) -> bool
     requires tuple { length tuple.now ≡ length joins.now }
     ensures value { result ≡ joins_true joins.now (values tuple.now) (values row.now) }
 {
@@ -43,7 +43,7 @@ fn brought(aggregate: Aggregate, row: &[WorkCell]) -> Cell
 
 // The answer of one tuple.
 fn group_one<A: AggregateFunction>(
-    joins: &[Join],
+    joins: &[Link],
     aggregate: Aggregate,
     tuple: &[WorkCell],
     rows: &[WorkCell],
@@ -67,7 +67,7 @@ fn group_one<A: AggregateFunction>(
 
 // Writes the answer of each tuple behind it.
 fn group<A: AggregateFunction>(
-    joins: &[Join],
+    joins: &[Link],
     aggregate: Aggregate,
     rows: &[WorkCell],
     kept: usize,
@@ -91,7 +91,7 @@ fn group<A: AggregateFunction>(
 
 // Writes the answer of each tuple by the aggregate's own function, chosen once for them all. H is the house's.
 pub(crate) fn group_by<H: AggregateFunction>(
-    joins: &[Join],
+    joins: &[Link],
     aggregate: Aggregate,
     rows: &[WorkCell],
     kept: usize,

@@ -7,11 +7,11 @@ ghost use Rattle.meaning.specs.Running.{distinct, tuple_of, unanswered};
 ghost use Rattle.engine.specs.Rows.{values, groups_in};
 
 use crate::rows::{cell_at, part, row_at};
-use queries::Join;
+use queries::Link;
 use terms::{WorkCell, same_cell};
 
 // Whether the cells of a row that the join conditions name make the tuple.
-pub(crate) fn same_tuple(joins: &[Join], row: &[WorkCell], tuple: &[WorkCell]) -> bool
+pub(crate) fn same_tuple(joins: &[Link], row: &[WorkCell], tuple: &[WorkCell]) -> bool
     requires tuple { length tuple.now ≡ length joins.now }
     ensures value { result ≡ alike (tuple_of joins.now (values row.now)) (values tuple.now) }
 {
@@ -24,7 +24,7 @@ pub(crate) fn same_tuple(joins: &[Join], row: &[WorkCell], tuple: &[WorkCell]) -
 }
 
 // Writes the cells of a row that the join conditions name from a place on.
-fn store_tuple(joins: &[Join], row: &[WorkCell], keys: &mut [WorkCell], at: usize)
+fn store_tuple(joins: &[Link], row: &[WorkCell], keys: &mut [WorkCell], at: usize)
     requires room { at + length joins.now ≤ length keys.old }
     ensures cells { values keys.new ≡ paste (values keys.old) at (tuple_of joins.now (values row.now)) (length joins.now) }
 {
@@ -37,7 +37,7 @@ fn store_tuple(joins: &[Join], row: &[WorkCell], keys: &mut [WorkCell], at: usiz
 
 // Writes each tuple once, in the order of the rows, with an absent answer behind it.
 pub(crate) fn project(
-    joins: &[Join],
+    joins: &[Link],
     rows: &[WorkCell],
     kept: usize,
     width: usize,

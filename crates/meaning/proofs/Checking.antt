@@ -12,12 +12,12 @@ use Rattle.queries.specs.declared.aggregates.Aggregate.TheVariants.{CountRows, O
 use Rattle.queries.specs.declared.nests.Nest.{Nest}
 use Rattle.queries.specs.declared.nests.Nest.TheVariants.{Aggregated, In, Exists, NotExists, Any, All}
 use Rattle.queries.specs.declared.parts.Test.{Test}
-use Rattle.queries.specs.declared.steps.Join.{Join}
+use Rattle.queries.specs.declared.parts.Link.{Link}
 use Rattle.queries.specs.declared.steps.Step.{Step}
 use Rattle.queries.specs.declared.steps.Step.TheVariants.{Restrict, Output}
 use Rattle.meaning.specs.Rows.{some}
 use Rattle.meaning.specs.Queries.{Inner, Query}
-use Rattle.meaning.specs.Plans.{Flat, PlanBlock, Plan, join_of, translated_as, translated, inner_blocks, restricts, unnest, unnests, plan, table_of, tests_of, joins_of}
+use Rattle.meaning.specs.Plans.{Flat, PlanBlock, Plan, translated_as, translated, inner_blocks, restricts, unnest, unnests, plan, table_of, tests_of, joins_of}
 use Rattle.meaning.specs.Checks.{first_of, nest_columns, nest_operands, own_columns, parent_columns, outer_columns, lacks, some_lacking, block_fault, inner_faults, query_fault, parent_of, aggregate_lacking, operand_lacking, group_lacking, filter_lacking, output_lacking, own_lacking, parent_lacking, plan_block_fault, plan_fault}
 use Rattle.meaning.proofs.Resolving.{Placed, plan_placed, at}
 use Rattle.meaning.proofs.Stopping.{same_table}
@@ -119,17 +119,17 @@ parented p (f ∷ fs) c front e h =
     )
 
 -- the join condition that IN and ANY become
-abbrev any_join : ℕ → Comparison → ℕ → Join
+abbrev any_join : ℕ → Comparison → ℕ → Link
 any_join operand comparison inner = record { column = inner; comparison = mirrored comparison; parent = operand }
 
 -- One inner block: its columns in its own table, and those in its parent's.
 
 module _ (n : ℕ) (i : Inner) where
-  links_then : (j : Join → ℕ) (more : List Join) (g : Bool)
-      → (some (λ x. lacks n (j x)) (map join_of i.links ++ more) || g) ≡ (some (λ l. lacks n (j (join_of l))) i.links || (some (λ x. lacks n (j x)) more || g))
+  links_then : (j : Link → ℕ) (more : List Link) (g : Bool)
+      → (some (λ x. lacks n (j x)) (i.links ++ more) || g) ≡ (some (λ l. lacks n (j (l))) i.links || (some (λ x. lacks n (j x)) more || g))
   links_then j more g =
-      ap (λ t. t || g) (some-append (λ x. lacks n (j x)) (map join_of i.links) more ∙ ap (λ t. t || some (λ x. lacks n (j x)) more) (some-map (λ x. lacks n (j x)) join_of i.links))
-      ∙ or_assoc (some (λ l. lacks n (j (join_of l))) i.links) (some (λ x. lacks n (j x)) more) g
+      ap (λ t. t || g) (some-append (λ x. lacks n (j x)) i.links more)
+      ∙ or_assoc (some (λ l. lacks n (j (l))) i.links) (some (λ x. lacks n (j x)) more) g
 
   abbrev own_links : Bool
   own_links = some (λ l. lacks n l.column) i.links

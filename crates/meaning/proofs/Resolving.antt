@@ -2,7 +2,7 @@
 use Rattle.std.proofs.Common.{◌≡◌, ℕ, suc, List, [], ◌∷◌, ◌++◌, map, length, get_or, sym, refl, ap, ◌∙◌, append_assoc, arith}
 use Rattle.std.proofs.lemmas.List.{get_or_at, map-append, length-map, length_push}
 use Rattle.queries.specs.declared.steps.Step.TheVariants.{Restrict}
-use Rattle.queries.specs.declared.steps.Join.{Join}
+use Rattle.queries.specs.declared.parts.Link.{Link}
 use Rattle.meaning.specs.Rows.{Contents}
 use Rattle.meaning.specs.Aggregates.{Meaning}
 use Rattle.meaning.specs.Queries.{Query}
@@ -43,7 +43,7 @@ module _ {Total : Type 0} (p : Plan) (db : Contents) (house : Meaning Total) whe
   unnests_are [] c s places = refl
   unnests_are (f ∷ fs) c s places =
       let before : State = unnested db house (suc c) fs s in
-      let by : List Join → State = λ j. filter (group house (project before c (suc c) j) (suc c) (suc c) j f.aggregate) c (suc c) j f.operand f.comparison in
+      let by : List Link → State = λ j. filter (group house (project before c (suc c) j) (suc c) (suc c) j f.aggregate) c (suc c) j f.operand f.comparison in
       folded_append (take_step p db house) s (unnests (suc c) fs) (unnest (suc c) c f)
       ∙ ap (λ t. take_steps p db house t (unnest (suc c) c f)) (unnests_are fs (suc c) s places.3)
       ∙ ap by places.2

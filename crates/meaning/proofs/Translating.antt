@@ -11,29 +11,28 @@ use Rattle.queries.specs.declared.nests.Nest.{Nest}
 use Rattle.queries.specs.declared.nests.Nest.TheVariants.{Aggregated, In, Exists, NotExists, Any, All}
 use Rattle.queries.specs.declared.parts.Link.{Link}
 use Rattle.queries.specs.declared.parts.Test.{Test}
-use Rattle.queries.specs.declared.steps.Join.{Join}
 use Rattle.queries.specs.declared.steps.Operand.{Operand}
 use Rattle.queries.specs.declared.steps.Operand.TheVariants.{Column, Zero}
 use Rattle.queries.specs.Codes.{extreme}
 use Rattle.meaning.specs.Rows.{Contents, cell, some}
 use Rattle.meaning.specs.Aggregates.{Meaning, aggregated}
 use Rattle.meaning.specs.Queries.{Inner, tests_true, link_true, links_true, nest_true, judged}
-use Rattle.meaning.specs.Plans.{Flat, join_of, flat, flat_any, translated, translated_as}
+use Rattle.meaning.specs.Plans.{Flat, flat, flat_any, translated, translated_as}
 use Rattle.meaning.specs.Running.{tuple_of, join_true, joins_true, operand_of}
 use Rattle.meaning.proofs.Lists.{and_true, and_assoc, and_swap, kept_all, kept_both, kept_alike, some_kept}
 use Rattle.meaning.proofs.Laws.{holds-mirrored, zero_less, zero_equal}
 
 -- the join conditions of a row, for one row of its parent
-abbrev pub joined : List Join → Row → Row → Bool
+abbrev pub joined : List Link → Row → Row → Bool
 joined joins parent row = every (λ j. join_true row j (cell j.parent parent)) joins
 
 -- they depend on the parent's tuple alone
-pub joins_of_tuple : (joins : List Join) (parent row : Row) → joins_true joins (tuple_of joins parent) row ≡ joined joins parent row
+pub joins_of_tuple : (joins : List Link) (parent row : Row) → joins_true joins (tuple_of joins parent) row ≡ joined joins parent row
 joins_of_tuple [] parent row = refl
 joins_of_tuple (j ∷ js) parent row = ap (λ b. join_true row j (cell j.parent parent) && b) (joins_of_tuple js parent row)
 
 -- a translated block's conditions are its links and those that the translation adds
-joined_links : (links : List Link) (more : List Join) (parent row : Row) → joined (map join_of links ++ more) parent row ≡ (links_true links parent row && joined more parent row)
+joined_links : (links : List Link) (more : List Link) (parent row : Row) → joined (links ++ more) parent row ≡ (links_true links parent row && joined more parent row)
 joined_links [] more parent row = refl
 joined_links (l ∷ ls) more parent row =
     ap (λ b. link_true parent row l && b) (joined_links ls more parent row)
@@ -44,13 +43,13 @@ abbrev pub passing : List Row → List Test → List Link → (Row → Bool) →
 passing rows tests links inside parent = filter (λ r. tests_true tests r && links_true links parent r && inside r) rows
 
 -- the same by join conditions
-abbrev pub joining : List Row → List Test → List Join → (Row → Bool) → Row → List Row
+abbrev pub joining : List Row → List Test → List Link → (Row → Bool) → Row → List Row
 joining rows tests joins inside parent = filter (λ r. tests_true tests r && joined joins parent r && inside r) rows
 
 -- with more conditions the rows are those that meet these too
-with_more : (rows : List Row) (tests : List Test) (links : List Link) (more : List Join) (inside : Row → Bool) (parent : Row) → joining rows tests (map join_of links ++ more) inside parent ≡ filter (joined more parent) (passing rows tests links inside parent)
+with_more : (rows : List Row) (tests : List Test) (links : List Link) (more : List Link) (inside : Row → Bool) (parent : Row) → joining rows tests (links ++ more) inside parent ≡ filter (joined more parent) (passing rows tests links inside parent)
 with_more rows tests links more inside parent =
-    kept_alike (λ r. tests_true tests r && joined (map join_of links ++ more) parent r && inside r) (λ r. (tests_true tests r && links_true links parent r && inside r) && joined more parent r) rows
+    kept_alike (λ r. tests_true tests r && joined (links ++ more) parent r && inside r) (λ r. (tests_true tests r && links_true links parent r && inside r) && joined more parent r) rows
     (λ r.
     ap (λ b. tests_true tests r && b && inside r) (joined_links links more parent r)
     ∙ ap (λ b. b && inside r) (sym (and_assoc (tests_true tests r) (links_true links parent r) (joined more parent r)))
@@ -58,7 +57,7 @@ with_more rows tests links more inside parent =
     ∙ sym (kept_both (joined more parent) (λ r. tests_true tests r && links_true links parent r && inside r) rows)
 
 -- with no further condition they are the same
-with_none : (rows : List Row) (tests : List Test) (links : List Link) (inside : Row → Bool) (parent : Row) → joining rows tests (map join_of links ++ []) inside parent ≡ passing rows tests links inside parent
+with_none : (rows : List Row) (tests : List Test) (links : List Link) (inside : Row → Bool) (parent : Row) → joining rows tests (links ++ []) inside parent ≡ passing rows tests links inside parent
 with_none rows tests links inside parent = with_more rows tests links [] inside parent ∙ kept_all (passing rows tests links inside parent)
 
 module _ {Total : Type 0} (db : Contents) (house : Meaning Total) where
@@ -74,8 +73,8 @@ module _ {Total : Type 0} (db : Contents) (house : Meaning Total) where
   by_any : (b : Inner) (operand : ℕ) (comparison : Comparison) (inner : ℕ) (inside : Row → Bool) (row : Row) → flat_true (flat_any b operand comparison inner) inside row ≡ some (λ r. holds comparison (cell operand row) (cell inner r)) (passing (db b.table) b.tests b.links inside row)
   by_any b operand comparison inner inside row =
       let rows : List Row = passing (db b.table) b.tests b.links inside row in
-      let j : Join = record { column = inner; comparison = mirrored comparison; parent = operand } in
-      zero_less (joining (db b.table) b.tests (map join_of b.links ++ (j ∷ [])) inside row)
+      let j : Link = record { column = inner; comparison = mirrored comparison; parent = operand } in
+      zero_less (joining (db b.table) b.tests (b.links ++ (j ∷ [])) inside row)
       ∙ ap (some (λ r. true)) (with_more (db b.table) b.tests b.links (j ∷ []) inside row)
       ∙ some_kept (joined (j ∷ []) row) rows
       ∙ ap (λ p. some p rows) (fun_ext λ r. and_true (join_true r j (cell operand row)) ∙ holds-mirrored comparison (cell operand row) (cell inner r))

@@ -9,7 +9,6 @@ use Rattle.queries.specs.declared.nests.Nest.{Nest}
 use Rattle.queries.specs.declared.nests.Nest.TheVariants.{Aggregated, In, Exists, NotExists, Any, All}
 use Rattle.queries.specs.declared.parts.Link.{Link}
 use Rattle.queries.specs.declared.parts.Test.{Test}
-use Rattle.queries.specs.declared.steps.Join.{Join}
 use Rattle.queries.specs.declared.steps.Operand.{Operand}
 use Rattle.queries.specs.declared.steps.Operand.TheVariants.{Column, Zero}
 use Rattle.queries.specs.declared.steps.Step.{Step}
@@ -21,17 +20,14 @@ use Rattle.meaning.specs.Queries.{Inner, Query}
 pub record Flat : Type 0 where
   pub table : ℕ
   pub tests : List Test
-  pub joins : List Join
+  pub joins : List Link
   pub operand : Operand
   pub comparison : Comparison
   pub aggregate : Aggregate
 
-abbrev pub join_of : Link → Join
-join_of l = record { column = l.column; comparison = l.comparison; parent = l.parent }
-
-abbrev pub flat : Inner → List Join → Operand → Comparison → Aggregate → Flat
+abbrev pub flat : Inner → List Link → Operand → Comparison → Aggregate → Flat
 flat b more operand comparison aggregate =
-    record { table = b.table; tests = b.tests; joins = map join_of b.links ++ more; operand = operand; comparison = comparison; aggregate = aggregate }
+    record { table = b.table; tests = b.tests; joins = b.links ++ more; operand = operand; comparison = comparison; aggregate = aggregate }
 
 -- ANY: a further join condition of the inner block, its column against the operand with the comparison mirrored, under
 -- 0 < COUNT(*)
@@ -53,7 +49,7 @@ translated b = translated_as b b.nest
 pub record PlanBlock : Type 0 where
   pub table : ℕ
   pub tests : List Test
-  pub joins : List Join
+  pub joins : List Link
   pub parent : ℕ
 
 pub record Plan : Type 0 where
@@ -96,5 +92,5 @@ table_of p b = slice_index (map (λ x. x.table) p.blocks) b
 abbrev pub tests_of : Plan → ℕ → List Test
 tests_of p b = slice_index_or (map (λ x. x.tests) p.blocks) b []
 
-abbrev pub joins_of : Plan → ℕ → List Join
+abbrev pub joins_of : Plan → ℕ → List Link
 joins_of p b = slice_index_or (map (λ x. x.joins) p.blocks) b []

@@ -7,7 +7,7 @@ use Rattle.queries.specs.declared.aggregates.Aggregate.{Aggregate}
 use Rattle.queries.specs.declared.aggregates.Aggregate.TheVariants.{CountRows, Of}
 use Rattle.queries.specs.declared.aggregates.Function.TheVariants.{Count}
 use Rattle.queries.specs.declared.parts.Test.{Test}
-use Rattle.queries.specs.declared.steps.Join.{Join}
+use Rattle.queries.specs.declared.parts.Link.{Link}
 use Rattle.queries.specs.declared.steps.Operand.{Operand}
 use Rattle.queries.specs.declared.steps.Operand.TheVariants.{Column, Zero}
 use Rattle.queries.specs.declared.steps.Step.{Step}
@@ -52,7 +52,7 @@ restrict s n tests rows =
 -- PROJECT
 
 -- the parent cells that the join conditions name
-abbrev pub tuple_of : List Join → Row → List Cell
+abbrev pub tuple_of : List Link → Row → List Cell
 tuple_of joins parent = map (λ j. cell j.parent parent) joins
 
 -- one more tuple, unless it stands there already
@@ -66,16 +66,16 @@ distinct tuples = fold noted [] tuples
 abbrev pub unanswered : List Cell → Group
 unanswered tuple = record { tuple = tuple; answer = None }
 
-abbrev pub project : State → (rows tuples : ℕ) → List Join → State
+abbrev pub project : State → (rows tuples : ℕ) → List Link → State
 project s rows tuples joins = with_groups s tuples (map unanswered (distinct (map (tuple_of joins) (s.kept rows))))
 
 -- GROUP
 
-abbrev pub join_true : Row → Join → Cell → Bool
+abbrev pub join_true : Row → Link → Cell → Bool
 join_true row j c = holds j.comparison (cell j.column row) c
 
 -- whether the join conditions of a row are true of a tuple
-abbrev pub joins_true : List Join → List Cell → Row → Bool
+abbrev pub joins_true : List Link → List Cell → Row → Bool
 joins_true [] tuple row = true
 joins_true (j ∷ js) [] row = false
 joins_true (j ∷ js) (c ∷ cs) row = join_true row j c && joins_true js cs row
@@ -96,13 +96,13 @@ answer_over house CountRows cells = answered house Count cells
 answer_over house (Of function column) cells = answered house function cells
 
 -- the aggregate over the rows that a tuple is joined with, in table order
-abbrev pub group_answer : {Total : Type 0} → Meaning Total → List Join → Aggregate → List Row → List Cell → Answer
+abbrev pub group_answer : {Total : Type 0} → Meaning Total → List Link → Aggregate → List Row → List Cell → Answer
 group_answer house joins aggregate rows tuple = answer_over house aggregate (joined_cells aggregate (kept_by (joins_true joins tuple) rows))
 
 abbrev pub with_answer : (List Cell → Answer) → Group → Group
 with_answer f g = record { tuple = g.tuple; answer = f g.tuple }
 
-abbrev pub group : {Total : Type 0} → Meaning Total → State → (rows tuples : ℕ) → List Join → Aggregate → State
+abbrev pub group : {Total : Type 0} → Meaning Total → State → (rows tuples : ℕ) → List Link → Aggregate → State
 group house s rows tuples joins aggregate = with_groups s tuples (map (with_answer (group_answer house joins aggregate (s.kept rows))) (s.groups tuples))
 
 -- FILTER
@@ -117,10 +117,10 @@ answer_for [] tuple = None
 answer_for (g ∷ gs) tuple = cond (alike tuple g.tuple) g.answer (answer_for gs tuple)
 
 -- whether a parent row's operand compares true with the answer of its own tuple
-abbrev pub passes : List Group → List Join → Operand → Comparison → Row → Bool
+abbrev pub passes : List Group → List Link → Operand → Comparison → Row → Bool
 passes groups joins operand comparison row = holds comparison (operand_of operand row) (answer_for groups (tuple_of joins row))
 
-abbrev pub filter : State → (rows tuples : ℕ) → List Join → Operand → Comparison → State
+abbrev pub filter : State → (rows tuples : ℕ) → List Link → Operand → Comparison → State
 filter s rows tuples joins operand comparison = with_kept s rows (kept_by (passes (s.groups tuples) joins operand comparison) (s.kept rows))
 
 -- OUTPUT

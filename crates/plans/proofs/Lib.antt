@@ -1,3 +1,2 @@
-mod Rest
-mod Whole
-mod OfSheets
+pub mod OfSheets
+pub mod Rest

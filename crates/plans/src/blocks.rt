@@ -1,13 +1,13 @@
 // A query after translation, in lists that the limits of a sheet bound.
 use bounded::Bounded;
-use queries::{Join, Step, Test};
+use queries::{Link, Step, Test};
 
 // A block with its join conditions, which are its links and at most one more, and the number of its parent.
 #[derive(Clone, Copy)]
 pub struct TranslatedBlock {
     pub table: u8,
     pub tests: Bounded<Test, 6>,
-    pub joins: Bounded<Join, 4>,
+    pub joins: Bounded<Link, 4>,
     pub parent: u8,
 }
 

@@ -2,53 +2,30 @@
 ghost use Rattle.std.specs.Prelude.{◌≡◌, ◌+◌, ◌≤◌, [], ◌++◌, map, length};
 ghost use Rattle.std.specs.Option.{option_to_list};
 ghost use Rattle.bounded.specs.Listed.{listed};
-ghost use Rattle.meaning.specs.Plans.{join_of, translated, inner_blocks};
+ghost use Rattle.meaning.specs.Plans.{translated, inner_blocks};
 ghost use Rattle.sheets.specs.Held.{inner_of};
 ghost use Rattle.plans.specs.Translated.{block_of, flats_of, inside};
 
 use crate::blocks::TranslatedBlock;
 use crate::unnesting::unnest;
 use bounded::Bounded;
-use queries::{Join, Link};
+use queries::Link;
 use sheets::InnerBlock;
-use terms::Comparison;
 
-// Fills the places of a list that are not in use.
-const BLANK_JOIN: Join = Join {
-    column: 0,
-    comparison: Comparison::Equal,
-    parent: 0,
-};
-
-pub(crate) fn no_joins() -> Bounded<Join, 4>
+pub(crate) fn no_joins() -> Bounded<Link, 4>
     ensures { listed result ≡ [] }
 {
-    Bounded::new(BLANK_JOIN)
-}
-
-// The links of a block as join conditions, in their order.
-fn joined(links: &[Link]) -> Bounded<Join, 4>
-    requires { length links.now ≤ 3 }
-    ensures { listed result ≡ map join_of links.now }
-{
-    let mut joins = no_joins();
-    for link in links {
-        joins.push(Join {
-            column: link.column,
-            comparison: link.comparison,
-            parent: link.parent,
-        });
-    }
-    joins
+    Bounded::new(Link::BLANK)
 }
 
 // The join conditions of a block: its links, and behind them the one that its nested test adds.
-fn joins_of(links: &Bounded<Link, 3>, further: Option<Join>) -> Bounded<Join, 4>
-    ensures { listed result ≡ map join_of (listed links.now) ++ option_to_list further }
+fn joins_of(links: &Bounded<Link, 3>, further: Option<Link>) -> Bounded<Link, 4>
+    ensures { listed result ≡ listed links.now ++ option_to_list further }
 {
-    let mut joins = joined(links.as_slice());
+    let mut joins = no_joins();
+    joins.extend(links.as_slice()).unwrap();
     if let Some(join) = further {
-        joins.push(join);
+        joins.push(join).unwrap();
     }
     joins
 }
@@ -77,7 +54,7 @@ pub(crate) fn inner_blocks(
     ensures { map block_of (listed blocks.new) ≡ map block_of (listed blocks.old) ++ inner_blocks parent (flats_of inner.now) }
 {
     if let [first, rest @ ..] = inner {
-        blocks.push(inner_block(first, parent));
+        blocks.push(inner_block(first, parent)).unwrap();
         inner_blocks(rest, parent + 1, blocks);
     }
 }

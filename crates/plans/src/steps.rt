@@ -18,7 +18,7 @@ pub(crate) fn restrict_steps(inner: &[InnerBlock], block: u8, steps: &mut Bounde
 {
     if let [_, rest @ ..] = inner {
         restrict_steps(rest, block + 1, steps);
-        steps.push(Step::Restrict { block, rows: block });
+        steps.push(Step::Restrict { block, rows: block }).unwrap();
     }
 }
 
@@ -59,6 +59,6 @@ pub(crate) fn unnest_steps(inner: &[InnerBlock], parent: u8, steps: &mut Bounded
 {
     if let [first, rest @ ..] = inner {
         unnest_steps(rest, parent + 1, steps);
-        steps.extend(&block_steps(first, parent));
+        steps.extend(&block_steps(first, parent)).unwrap();
     }
 }

@@ -23,7 +23,7 @@ fn blocks_of(query: &SheetQuery) -> Bounded<TranslatedBlock, 4>
         parent: 0,
     };
     let mut blocks = Bounded::new(outermost);
-    blocks.push(outermost);
+    blocks.push(outermost).unwrap();
     inner_blocks(query.inner.as_slice(), 0, &mut blocks);
     blocks
 }
@@ -36,9 +36,9 @@ fn steps_of(query: &SheetQuery) -> Bounded<Step, 14>
     let output = Step::Output { rows: 0 };
     let mut steps = Bounded::new(output);
     restrict_steps(inner, 1, &mut steps);
-    steps.push(Step::Restrict { block: 0, rows: 0 });
+    steps.push(Step::Restrict { block: 0, rows: 0 }).unwrap();
     unnest_steps(inner, 0, &mut steps);
-    steps.push(output);
+    steps.push(output).unwrap();
     steps
 }
 

@@ -7,7 +7,7 @@ ghost use Rattle.queries.specs.declared.steps.Operand.TheVariants as operands;
 ghost use Rattle.queries.specs.declared.aggregates.Aggregate.TheVariants as aggregates;
 ghost use Rattle.plans.specs.Unnesting.{flat_by, Unnests};
 
-use queries::{Aggregate, Function, Join, Nest, Operand};
+use queries::{Aggregate, Function, Link, Nest, Operand};
 use terms::Comparison;
 
 // What the translation of a nested test compares, with the join condition that it may add to the inner block.
@@ -16,11 +16,11 @@ pub(crate) struct Unnested {
     pub(crate) operand: Operand,
     pub(crate) comparison: Comparison,
     pub(crate) aggregate: Aggregate,
-    pub(crate) further: Option<Join>,
+    pub(crate) further: Option<Link>,
 }
 
 // The number 0 compared with COUNT(*).
-fn counted(comparison: Comparison, further: Option<Join>) -> Unnested
+fn counted(comparison: Comparison, further: Option<Link>) -> Unnested
     ensures { (b : Inner) → flat_by b result ≡ flat b (option_to_list further) operands.Zero comparison aggregates.CountRows }
 {
     Unnested {
@@ -47,7 +47,7 @@ fn compared(column: u8, comparison: Comparison, aggregate: Aggregate) -> Unneste
 fn any(operand: u8, comparison: Comparison, inner: u8) -> Unnested
     ensures { (b : Inner) → flat_by b result ≡ flat_any b operand comparison inner }
 {
-    let further = Join {
+    let further = Link {
         column: inner,
         comparison: comparison.mirrored(),
         parent: operand,

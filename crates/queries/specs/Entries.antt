@@ -1,6 +1,8 @@
 -- What an entry stands for, where every number that it uses is in range.
 use Rattle.std.specs.Prelude.{ℕ, cond, ℤ, Some, None, Option, ◌==◌}
+use Rattle.std.specs.Option.{option_map}
 use Rattle.terms.specs.Cells.{in_range}
+use Rattle.terms.specs.declared.comparisons.Comparison.{Comparison}
 use Rattle.terms.specs.Comparisons.{comparison_numbered}
 use Rattle.terms.specs.Tables.{is_table, is_column}
 use Rattle.queries.specs.declared.aggregates.Aggregate.{Aggregate}
@@ -46,23 +48,27 @@ abbrev pub read_aggregate : ℕ → ℕ → Option Aggregate
 read_aggregate code inner =
     cond (code == 0) (Some CountRows) (also (function_numbered code) (λ f. also (column_in_range inner) (λ k. Some (Of f k))))
 
+-- a column of the parent, and how it is compared
+abbrev pub read_compared : ℕ → ℕ → Option (ℕ × Comparison)
+read_compared operand comparison = also (column_in_range operand) (λ o. also (comparison_numbered comparison) (λ c. Some (o, c)))
+
+-- the same, and a column of the inner block
+abbrev pub read_quantified : ℕ → ℕ → ℕ → Option (ℕ × Comparison × ℕ)
+read_quantified operand comparison inner =
+    also (column_in_range operand) (λ o. also (comparison_numbered comparison) (λ c. also (column_in_range inner) (λ k. Some (o, c, k))))
+
 abbrev pub read_aggregated : ℕ → ℕ → ℕ → ℕ → Option Nest
 read_aggregated operand comparison code inner =
-    also (column_in_range operand) (λ o. also (comparison_numbered comparison) (λ c. also (read_aggregate code inner) (λ a.
-    Some (nest.Aggregated o c a))))
+    also (read_compared operand comparison) (λ p. also (read_aggregate code inner) (λ a. Some (nest.Aggregated p.0 p.1 a)))
 
 abbrev pub read_in : ℕ → ℕ → Option Nest
 read_in operand inner = also (column_in_range operand) (λ o. also (column_in_range inner) (λ k. Some (nest.In o k)))
 
 abbrev pub read_any : ℕ → ℕ → ℕ → Option Nest
-read_any operand comparison inner =
-    also (column_in_range operand) (λ o. also (comparison_numbered comparison) (λ c. also (column_in_range inner) (λ k.
-    Some (nest.Any o c k))))
+read_any operand comparison inner = option_map (λ p. nest.Any p.0 p.1 p.2) (read_quantified operand comparison inner)
 
 abbrev pub read_all : ℕ → ℕ → ℕ → Option Nest
-read_all operand comparison inner =
-    also (column_in_range operand) (λ o. also (comparison_numbered comparison) (λ c. also (column_in_range inner) (λ k.
-    Some (nest.All o c k))))
+read_all operand comparison inner = option_map (λ p. nest.All p.0 p.1 p.2) (read_quantified operand comparison inner)
 
 -- each form looks at its own parts alone
 abbrev pub read_form : Form → ℕ → ℕ → ℕ → ℕ → Option Nest

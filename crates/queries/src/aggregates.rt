@@ -1,11 +1,12 @@
 // Aggregates by their codes.
 ghost use Rattle.std.specs.Prelude.{◌≡◌};
+ghost use Rattle.terms.specs.Faults.{or_out_of_range};
 ghost use Rattle.queries.specs.Codes.{function_number, function_numbered, aggregate_code, extreme};
 
-use terms::Comparison;
+use terms::{Comparison, Refusal};
 
 // A function that makes one answer out of the cells of a column. House is the recorder's own, fixed for its program.
-#[derive(Clone, Copy)]
+#[derive(Clone, Copy, PartialEq, Eq, Debug)]
 pub enum Function {
     Count = 1,
     Sum = 2,
@@ -15,33 +16,13 @@ pub enum Function {
 }
 
 // What an aggregate is taken of: COUNT(*) of the rows themselves, any other of the cells of one column.
-#[derive(Clone, Copy)]
+#[derive(Clone, Copy, PartialEq, Eq, Debug)]
 pub enum Aggregate {
     CountRows,
     Of { function: Function, column: u8 },
 }
 
 impl Function {
-    pub fn number(self) -> u8
-        ensures { result ≡ function_number self }
-    {
-        self as u8
-    }
-
-    // The function with a number; None outside 1 to 5.
-    pub fn numbered(number: u8) -> Option<Function>
-        ensures { result ≡ function_numbered number }
-    {
-        match number {
-            1 => Some(Function::Count),
-            2 => Some(Function::Sum),
-            3 => Some(Function::Min),
-            4 => Some(Function::Max),
-            5 => Some(Function::House),
-            _ => None,
-        }
-    }
-
     // The function that ALL compares with: less than all is less than the least, more than all is more than the most.
     pub fn extreme(comparison: Comparison) -> Function
         ensures { result ≡ extreme comparison }
@@ -53,17 +34,40 @@ impl Function {
     }
 }
 
-impl Aggregate {
-    // The code: 0 for COUNT(*), else the function's number.
-    pub fn code(self) -> u8
-        ensures { result ≡ aggregate_code self }
-    {
-        match self {
+impl From<Function> for u8 {
+    ghost from_gives = { λ function number. number ≡ function_number function };
+
+    fn from(function: Function) -> u8 {
+        function as u8
+    }
+}
+
+// The function with a number; outside 1 to 5 there is none.
+impl TryFrom<u8> for Function {
+    type Error = Refusal;
+
+    ghost try_from_gives = { λ number function. function ≡ or_out_of_range (function_numbered number) };
+
+    fn try_from(number: u8) -> Result<Function, Refusal> {
+        match number {
+            1 => Ok(Function::Count),
+            2 => Ok(Function::Sum),
+            3 => Ok(Function::Min),
+            4 => Ok(Function::Max),
+            5 => Ok(Function::House),
+            _ => Err(Refusal::OutOfRange),
+        }
+    }
+}
+
+// The code: 0 for COUNT(*), else the function's number.
+impl From<Aggregate> for u8 {
+    ghost from_gives = { λ aggregate code. code ≡ aggregate_code aggregate };
+
+    fn from(aggregate: Aggregate) -> u8 {
+        match aggregate {
             Aggregate::CountRows => 0,
-            Aggregate::Of {
-                function,
-                column: _,
-            } => function.number(),
+            Aggregate::Of { function, .. } => u8::from(function),
         }
     }
 }

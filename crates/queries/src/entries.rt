@@ -3,7 +3,7 @@ use crate::nests::Nest;
 use crate::parts::{Link, Test};
 
 // An entry as it was given: any of its numbers may be out of range. Those that an entry does not use are not looked at.
-#[derive(Clone, Copy)]
+#[derive(Clone, Copy, PartialEq, Eq, Debug)]
 pub enum Entry {
     Open {
         table: u8,
@@ -33,7 +33,7 @@ pub enum Entry {
 }
 
 // An entry whose numbers are all in range: what it brings to the query.
-#[derive(Clone, Copy)]
+#[derive(Clone, Copy, PartialEq, Eq, Debug)]
 pub enum Part {
     Outermost { table: u8 },
     Tested { test: Test },

@@ -12,4 +12,4 @@ pub use aggregates::{Aggregate, Function};
 pub use entries::{Entry, Part};
 pub use nests::{Form, Nest};
 pub use parts::{Link, Test};
-pub use steps::{Join, Operand, Step};
+pub use steps::{Operand, Step};

@@ -1,11 +1,12 @@
 // Nested tests: what a row of a block is tested for against the rows of the block inside.
 ghost use Rattle.std.specs.Prelude.{◌≡◌};
+ghost use Rattle.terms.specs.Faults.{or_out_of_range};
 ghost use Rattle.queries.specs.Codes.{form_number, form_numbered, nest_form};
 
 use crate::aggregates::Aggregate;
-use terms::Comparison;
+use terms::{Comparison, Refusal};
 
-#[derive(Clone, Copy)]
+#[derive(Clone, Copy, PartialEq, Eq, Debug)]
 pub enum Form {
     Aggregated = 1,
     In = 2,
@@ -17,7 +18,7 @@ pub enum Form {
 
 // A nested test with just the parts that its form has. The operand is a column of the parent, the inner column one of
 // the inner block.
-#[derive(Clone, Copy)]
+#[derive(Clone, Copy, PartialEq, Eq, Debug)]
 pub enum Nest {
     Aggregated {
         operand: u8,
@@ -42,25 +43,29 @@ pub enum Nest {
     },
 }
 
-impl Form {
-    pub fn number(self) -> u8
-        ensures { result ≡ form_number self }
-    {
-        self as u8
-    }
+impl From<Form> for u8 {
+    ghost from_gives = { λ form number. number ≡ form_number form };
 
-    // The form with a number; None outside 1 to 6.
-    pub fn numbered(number: u8) -> Option<Form>
-        ensures { result ≡ form_numbered number }
-    {
+    fn from(form: Form) -> u8 {
+        form as u8
+    }
+}
+
+// The form with a number; outside 1 to 6 there is none.
+impl TryFrom<u8> for Form {
+    type Error = Refusal;
+
+    ghost try_from_gives = { λ number form. form ≡ or_out_of_range (form_numbered number) };
+
+    fn try_from(number: u8) -> Result<Form, Refusal> {
         match number {
-            1 => Some(Form::Aggregated),
-            2 => Some(Form::In),
-            3 => Some(Form::Exists),
-            4 => Some(Form::NotExists),
-            5 => Some(Form::Any),
-            6 => Some(Form::All),
-            _ => None,
+            1 => Ok(Form::Aggregated),
+            2 => Ok(Form::In),
+            3 => Ok(Form::Exists),
+            4 => Ok(Form::NotExists),
+            5 => Ok(Form::Any),
+            6 => Ok(Form::All),
+            _ => Err(Refusal::OutOfRange),
         }
     }
 }

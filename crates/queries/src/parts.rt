@@ -2,17 +2,35 @@
 use terms::Comparison;
 
 // A test: a column of the block against a constant.
-#[derive(Clone, Copy)]
+#[derive(Clone, Copy, PartialEq, Eq, Debug)]
 pub struct Test {
     pub column: u8,
     pub comparison: Comparison,
     pub constant: i32,
 }
 
-// A link, which correlates two blocks: a column of the block against a column of its parent.
-#[derive(Clone, Copy)]
+// A link, which correlates two blocks: a column of the block against a column of its parent. A plan joins by the same.
+#[derive(Clone, Copy, PartialEq, Eq, Debug)]
 pub struct Link {
     pub column: u8,
     pub comparison: Comparison,
     pub parent: u8,
+}
+
+impl Test {
+    // Fills the places of a list that are not in use.
+    pub const BLANK: Test = Test {
+        column: 0,
+        comparison: Comparison::Equal,
+        constant: 0,
+    };
+}
+
+impl Link {
+    // Fills the places of a list that are not in use.
+    pub const BLANK: Link = Link {
+        column: 0,
+        comparison: Comparison::Equal,
+        parent: 0,
+    };
 }

@@ -3,22 +3,14 @@
 use crate::aggregates::Aggregate;
 use terms::Comparison;
 
-// A join condition: a column of an inner block's rows against a column of its parent's.
-#[derive(Clone, Copy)]
-pub struct Join {
-    pub column: u8,
-    pub comparison: Comparison,
-    pub parent: u8,
-}
-
 // What FILTER compares with a tuple's answer: a column of the parent, or the number 0.
-#[derive(Clone, Copy)]
+#[derive(Clone, Copy, PartialEq, Eq, Debug)]
 pub enum Operand {
     Column { column: u8 },
     Zero,
 }
 
-#[derive(Clone, Copy)]
+#[derive(Clone, Copy, PartialEq, Eq, Debug)]
 pub enum Step {
     // Fetches every row of the block's table, and keeps in `rows` those whose tests are true.
     Restrict {

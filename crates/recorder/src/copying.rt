@@ -74,7 +74,7 @@ pub(crate) fn push_record(
             Ok(())
         }
         Err(fault) => {
-            let number = fault.refusal.number();
+            let number = u8::from(fault.refusal);
             Err(anyhow!(format!(in heap; "table {table} cannot be written: refused by {number}")?))
         }
     }

@@ -3,7 +3,7 @@ use std::alloc::{AllocError, Global};
 use terms::{Fault, Refusal};
 
 pub(crate) fn refusal_line(heap: Global, fault: Fault) -> Result<String, AllocError> {
-    let number = fault.refusal.number();
+    let number = u8::from(fault.refusal);
     let place = fault.place;
     let meaning = load_meaning(fault.refusal);
     format!(in heap; "Refused by {number}: {meaning} (byte {place}).")
@@ -14,7 +14,7 @@ pub(crate) fn answer_text(heap: Global, answer: Result<(), Fault>) -> Result<Str
     match answer {
         Ok(()) => String::from_str(heap, "taken"),
         Err(fault) => {
-            let number = fault.refusal.number();
+            let number = u8::from(fault.refusal);
             let block = fault.block;
             format!(in heap; "declined by {number} in block {block}")
         }

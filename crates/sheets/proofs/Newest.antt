@@ -1,6 +1,5 @@
 -- What is said of a query's newest inner block, as the code holds it and as it means.
 use Rattle.std.proofs.Common.{◌≡◌, ℕ, ◌<◌, Bool, true, cond, ltb, List, [], ◌∷◌, ◌++◌, map, length, Some, None, refl, ap, arith}
-use Rattle.std.proofs.lemmas.List.{length-map, map_push}
 use Rattle.std.proofs.lemmas.Bool.Decides.{nat_tests}
 use Rattle.std.specs.Option.{option_map}
 use Rattle.bounded.specs.Listed.{latest, revised}
@@ -45,8 +44,3 @@ test_outermost t q (x ∷ xs) e = let z : ◌≡◌ {A = ℕ} 0 1 = never x xs e
 -- one more item, where there is room
 pub pushed : {A : Type 0} (xs ys : List A) (x : A) (r : Bool) (n : ℕ) → r ≡ ltb (length xs) n → ys ≡ cond r (xs ++ (x ∷ [])) xs → length xs < n → ys ≡ xs ++ (x ∷ [])
 pushed xs ys x r n room items fits = let t : r ≡ true = grind (arith, nat_tests) in rw t at items
-
-pub push-map : {A B : Type 0} (f : A → B) (xs ys : List A) (x : A) (y : B) (r : Bool) (n : ℕ) → r ≡ ltb (length xs) n → ys ≡ cond r (xs ++ (x ∷ [])) xs → length (map f xs) < n → f x ≡ y → map f ys ≡ map f xs ++ (y ∷ [])
-push-map f xs ys x y r n room items fits e =
-    let s : ys ≡ xs ++ (x ∷ []) = pushed xs ys x r n room items (simp length-map at fits) in
-    rw (s, map_push) (rw e)

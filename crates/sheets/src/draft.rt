@@ -3,9 +3,11 @@ use crate::blocks::SheetQuery;
 
 mod entering;
 
-// No query before block 0 is open; nothing more is entered once it has ended.
 #[derive(Clone, Copy)]
-pub(crate) struct Draft {
-    pub(crate) query: Option<SheetQuery>,
-    pub(crate) ended: bool,
+pub(crate) enum Draft {
+    // Block 0 is not open yet.
+    Fresh,
+    Open(SheetQuery),
+    // A finish was taken: nothing more is entered.
+    Ended(SheetQuery),
 }

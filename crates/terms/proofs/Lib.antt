@@ -1,3 +1,4 @@
 pub mod Everys
 pub mod Loops
+pub mod Ranges
 pub mod Taken

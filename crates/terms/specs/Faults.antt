@@ -1,5 +1,6 @@
 -- The refusals and layers by their numbers, and the faults that sources give.
-use Rattle.std.specs.Prelude.{ℕ, Ok, Err, Result}
+use Rattle.std.specs.Prelude.{ℕ, Ok, Err, Option, Result}
+use Rattle.std.specs.Option.{ok_or}
 use Rattle.terms.specs.declared.refusals.Refusal.{Refusal}
 use Rattle.terms.specs.declared.refusals.Refusal.TheVariants.{OutOfRange, OutOfTurn, OverLimit, AllByEquality, NothingSelected, SheetUnfinished, PlanEmpty, BufferShort, WorkShort, ImageTooLong, RecordPastEnd, UnknownKind, BadTableHead, BadRowCount, BadRow, NoSuchTable, NoSuchColumn, RowUnreadable, NoSuchRow}
 use Rattle.terms.specs.declared.faults.Layer.{Layer}
@@ -32,6 +33,10 @@ layer_number Sheet = 1
 layer_number Translation = 2
 layer_number Run = 3
 layer_number Source = 4
+
+-- a number that stands for nothing is refused as out of range
+abbrev pub or_out_of_range : {X : Type 0} → Option X → Result X Refusal
+or_out_of_range x = ok_or x OutOfRange
 
 -- the number of an answer: 0 of a taken call
 abbrev pub told : Result (Unit {0}) Fault → ℕ

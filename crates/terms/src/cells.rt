@@ -16,9 +16,5 @@ pub struct WorkCell {
 pub fn same_cell(left: Option<i64>, right: Option<i64>) -> bool
     ensures { result ≡ same left right }
 {
-    match (left, right) {
-        (None, None) => true,
-        (Some(a), Some(b)) => a == b,
-        _ => false,
-    }
+    left == right
 }

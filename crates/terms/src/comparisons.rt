@@ -1,6 +1,9 @@
 // The six comparisons of SQL.
 ghost use Rattle.std.specs.Prelude.{◌≡◌};
 ghost use Rattle.terms.specs.Comparisons.{comparison_number, comparison_numbered, mirrored, ordered, holds};
+ghost use Rattle.terms.specs.Faults.{or_out_of_range};
+
+use crate::refusals::Refusal;
 
 #[derive(Clone, Copy, PartialEq, Eq, Debug)]
 pub enum Comparison {
@@ -13,27 +16,6 @@ pub enum Comparison {
 }
 
 impl Comparison {
-    pub fn number(self) -> u8
-        ensures { result ≡ comparison_number self }
-    {
-        self as u8
-    }
-
-    // The comparison with a number; None outside 1 to 6.
-    pub fn numbered(number: u8) -> Option<Comparison>
-        ensures { result ≡ comparison_numbered number }
-    {
-        match number {
-            1 => Some(Comparison::Equal),
-            2 => Some(Comparison::NotEqual),
-            3 => Some(Comparison::Less),
-            4 => Some(Comparison::LessOrEqual),
-            5 => Some(Comparison::Greater),
-            6 => Some(Comparison::GreaterOrEqual),
-            _ => None,
-        }
-    }
-
     // The comparison with its sides exchanged.
     pub fn mirrored(self) -> Comparison
         ensures { result ≡ mirrored self }
@@ -68,6 +50,33 @@ impl Comparison {
             Comparison::LessOrEqual => left <= right,
             Comparison::Greater => left > right,
             Comparison::GreaterOrEqual => left >= right,
+        }
+    }
+}
+
+impl From<Comparison> for u8 {
+    ghost from_gives = { λ comparison number. number ≡ comparison_number comparison };
+
+    fn from(comparison: Comparison) -> u8 {
+        comparison as u8
+    }
+}
+
+// The comparison with a number; outside 1 to 6 there is none.
+impl TryFrom<u8> for Comparison {
+    type Error = Refusal;
+
+    ghost try_from_gives = { λ number comparison. comparison ≡ or_out_of_range (comparison_numbered number) };
+
+    fn try_from(number: u8) -> Result<Comparison, Refusal> {
+        match number {
+            1 => Ok(Comparison::Equal),
+            2 => Ok(Comparison::NotEqual),
+            3 => Ok(Comparison::Less),
+            4 => Ok(Comparison::LessOrEqual),
+            5 => Ok(Comparison::Greater),
+            6 => Ok(Comparison::GreaterOrEqual),
+            _ => Err(Refusal::OutOfRange),
         }
     }
 }

@@ -1,6 +1,6 @@
 // Why a call is refused, and where.
 ghost use Rattle.std.specs.Prelude.{◌≡◌, Ok, Err};
-ghost use Rattle.terms.specs.Faults.{layer_number, told, on_sheet, at_place, refused_at, of_row, of_layer, of_table, in_block};
+ghost use Rattle.terms.specs.Faults.{layer_number, told, on_sheet, at_place, refused_at, of_row, of_layer, of_table, with_block, in_block};
 
 use crate::refusals::Refusal;
 
@@ -13,7 +13,8 @@ pub enum Layer {
     Source = 4,
 }
 
-// What a refused call tells. What does not apply is 0.
+// What a refused call tells: the same fields whatever it was, so that a device can show them as they are. What does not
+// apply is 0, as the rules of the refusals have it.
 #[derive(Clone, Copy, PartialEq, Eq, Debug)]
 pub struct Fault {
     pub refusal: Refusal,
@@ -24,67 +25,15 @@ pub struct Fault {
     pub place: usize,
 }
 
-impl Layer {
-    pub fn number(self) -> u8
-        ensures { result ≡ layer_number self }
-    {
-        self as u8
+impl From<Layer> for u8 {
+    ghost from_gives = { λ layer number. number ≡ layer_number layer };
+
+    fn from(layer: Layer) -> u8 {
+        layer as u8
     }
 }
 
 impl Fault {
-    // The fault of an entry on a sheet: the sheet's layer, and the current block.
-    pub fn on_sheet(refusal: Refusal, block: u8) -> Fault
-        ensures { result ≡ on_sheet refusal block }
-    {
-        Fault {
-            refusal,
-            layer: Layer::Sheet,
-            block,
-            table: 0,
-            row: 0,
-            place: 0,
-        }
-    }
-
-    // The fault of loading or writing: the source's layer, and the place alone.
-    pub fn at_place(refusal: Refusal, place: usize) -> Fault
-        ensures { result ≡ at_place refusal place }
-    {
-        Fault {
-            refusal,
-            layer: Layer::Source,
-            block: 0,
-            table: 0,
-            row: 0,
-            place,
-        }
-    }
-
-    // The verdict on a part of what is loaded, with the part's place.
-    pub fn placed(verdict: Result<(), Refusal>, place: usize) -> Result<(), Fault>
-        ensures { result ≡ refused_at verdict place (Ok tt) }
-    {
-        match verdict {
-            Ok(()) => Ok(()),
-            Err(refusal) => Err(Fault::at_place(refusal, place)),
-        }
-    }
-
-    // The fault of a fetch: the source's layer, the table and the row as asked for.
-    pub fn of_row(refusal: Refusal, table: u8, row: usize) -> Fault
-        ensures { result ≡ of_row refusal table row }
-    {
-        Fault {
-            refusal,
-            layer: Layer::Source,
-            block: 0,
-            table,
-            row,
-            place: 0,
-        }
-    }
-
     // The fault of a call as a whole: its layer alone.
     pub fn of_layer(refusal: Refusal, layer: Layer) -> Fault
         ensures { result ≡ of_layer refusal layer }
@@ -99,24 +48,59 @@ impl Fault {
         }
     }
 
+    // The fault of an entry on a sheet: the sheet's layer, and the current block.
+    pub fn on_sheet(refusal: Refusal, block: u8) -> Fault
+        ensures { result ≡ on_sheet refusal block }
+    {
+        Fault::of_layer(refusal, Layer::Sheet).with_block(block)
+    }
+
+    // The fault of loading or writing: the source's layer, and the place alone.
+    pub fn at_place(refusal: Refusal, place: usize) -> Fault
+        ensures { result ≡ at_place refusal place }
+    {
+        let fault = Fault::of_layer(refusal, Layer::Source);
+        Fault { place, ..fault }
+    }
+
+    // The fault of a fetch: the source's layer, the table and the row as asked for.
+    pub fn of_row(refusal: Refusal, table: u8, row: usize) -> Fault
+        ensures { result ≡ of_row refusal table row }
+    {
+        Fault {
+            table,
+            row,
+            ..Fault::of_layer(refusal, Layer::Source)
+        }
+    }
+
     // The fault of a block that a run's checks refuse: the block, and the table concerned.
     pub fn of_table(refusal: Refusal, block: u8, table: u8) -> Fault
         ensures { result ≡ of_table refusal block table }
     {
-        let mut fault = Fault::of_layer(refusal, Layer::Run);
-        fault.block = block;
-        fault.table = table;
-        fault
+        let fault = Fault::of_layer(refusal, Layer::Run).with_block(block);
+        Fault { table, ..fault }
+    }
+
+    // The same fault in a block.
+    fn with_block(self, block: u8) -> Fault
+        ensures { result ≡ with_block block self }
+    {
+        Fault { block, ..self }
+    }
+
+    // The verdict on a part of what is loaded, with the part's place.
+    pub fn placed(verdict: Result<(), Refusal>, place: usize) -> Result<(), Fault>
+        ensures { result ≡ refused_at verdict place (Ok tt) }
+    {
+        verdict.map_err(|refusal| Fault::at_place(refusal, place))
     }
 
     // A source's answer with the block added to its fault.
     pub fn in_block(answer: Result<(), Fault>, block: u8) -> Result<(), Fault>
         ensures { result ≡ in_block block answer }
     {
-        match answer {
-            Ok(()) => Ok(()),
-            Err(fault) => Err(Fault { block, ..fault }),
-        }
+        answer.map_err(|fault| fault.with_block(block))
     }
 
     // The number by which a call's answer is told: 0 where it was taken.
@@ -125,7 +109,7 @@ impl Fault {
     {
         match answer {
             Ok(()) => 0,
-            Err(fault) => fault.refusal.number(),
+            Err(fault) => u8::from(fault.refusal),
         }
     }
 }

@@ -12,12 +12,12 @@ pub const MAX_ROWS: usize = 1_024;
 pub fn is_table(number: u8) -> bool
     ensures { result ≡ is_table number }
 {
-    1 <= number && number <= 16
+    (1..=16).contains(&number)
 }
 
 // Whether a column may have this number, which is also whether a table may have so many columns.
 pub fn is_column(number: u8) -> bool
     ensures { result ≡ is_column number }
 {
-    1 <= number && number <= 6
+    (1..=6).contains(&number)
 }

@@ -1,6 +1,6 @@
 // The calls on a plan place.
 ghost use Rattle.std.specs.Prelude.{◌≡◌, not, is_some, None};
-ghost use Rattle.std.specs.Option.{option_map};
+ghost use Rattle.std.specs.Option.{option_copied, option_map};
 ghost use Rattle.meaning.specs.Spelling.{finished};
 ghost use Rattle.sheets.specs.Held.{query_of};
 ghost use Rattle.sheets.specs.Sheets.{sheet_of};
@@ -22,29 +22,27 @@ impl Plan {
     pub fn is_empty(&self) -> bool
         ensures { result ≡ not (is_some (held self.now)) }
     {
-        matches!(self.translated, None)
+        self.translated.is_none()
     }
 
     // What the place holds; None where it is empty.
-    pub fn translated(&self) -> Option<TranslatedQuery>
-        ensures { result ≡ self.now.translated }
+    pub fn translated(&self) -> Option<&TranslatedQuery>
+        ensures { option_copied result ≡ self.now.translated }
     {
-        self.translated
+        self.translated.as_ref()
     }
 
     // Translates a finished sheet, in place of whatever was here; an unfinished one is refused, and the place is as it was.
     pub fn translate(&mut self, sheet: &Sheet) -> Result<(), Fault>
         ensures { Translates self.old sheet.now result self.new }
     {
-        match finished_query(sheet) {
-            Some(query) => {
-                *self = Plan {
-                    translated: Some(translated_query(&query)),
-                };
-                Ok(())
-            }
-            None => Err(Fault::of_layer(Refusal::SheetUnfinished, Layer::Translation)),
-        }
+        let Some(query) = finished_query(sheet) else {
+            return Err(Fault::of_layer(Refusal::SheetUnfinished, Layer::Translation));
+        };
+        *self = Plan {
+            translated: Some(translated_query(&query)),
+        };
+        Ok(())
     }
 }
 

@@ -8,20 +8,6 @@ ghost use Rattle.sheets.specs.Held.{inner_of, query_of};
 use crate::blocks::{InnerBlock, SheetQuery};
 use bounded::Bounded;
 use queries::{Link, Nest, Part, Test};
-use terms::Comparison;
-
-// Fills the places of a list that are not in use.
-const BLANK_TEST: Test = Test {
-    column: 0,
-    comparison: Comparison::Equal,
-    constant: 0,
-};
-
-const BLANK_LINK: Link = Link {
-    column: 0,
-    comparison: Comparison::Equal,
-    parent: 0,
-};
 
 impl InnerBlock {
     fn new(nest: Nest, table: u8) -> InnerBlock
@@ -30,8 +16,8 @@ impl InnerBlock {
         InnerBlock {
             nest,
             table,
-            tests: Bounded::new(BLANK_TEST),
-            links: Bounded::new(BLANK_LINK),
+            tests: Bounded::new(Test::BLANK),
+            links: Bounded::new(Link::BLANK),
         }
     }
 
@@ -40,7 +26,7 @@ impl InnerBlock {
         ensures { inner_of result ≡ with_test test (inner_of self) }
     {
         let mut tests = self.tests;
-        tests.push(test);
+        tests.push(test).unwrap();
         InnerBlock { tests, ..self }
     }
 
@@ -49,7 +35,7 @@ impl InnerBlock {
         ensures { inner_of result ≡ with_link link (inner_of self) }
     {
         let mut links = self.links;
-        links.push(link);
+        links.push(link).unwrap();
         InnerBlock { links, ..self }
     }
 }
@@ -61,7 +47,7 @@ impl SheetQuery {
         let blank = InnerBlock::new(Nest::Exists, 0);
         SheetQuery {
             table,
-            tests: Bounded::new(BLANK_TEST),
+            tests: Bounded::new(Test::BLANK),
             inner: Bounded::new(blank),
             outputs: Bounded::new(0),
         }
@@ -96,10 +82,7 @@ impl SheetQuery {
     fn links(&self) -> usize
         ensures { result ≡ links (latest (query_of self.now).inner) }
     {
-        match self.newest() {
-            Some(block) => block.links.len(),
-            None => 0,
-        }
+        self.newest().map_or(0, |block| block.links.len())
     }
 
     // Whether a part would be one more than a limit.
@@ -133,7 +116,7 @@ impl SheetQuery {
             Some(block) => self.with_newest(block.with_test(test)),
             None => {
                 let mut tests = self.tests;
-                tests.push(test);
+                tests.push(test).unwrap();
                 SheetQuery { tests, ..self }
             }
         }
@@ -163,7 +146,7 @@ impl SheetQuery {
         ensures { query_of result ≡ with_inner (query_of self) ((query_of self).inner ++ (fresh_inner nest table ∷ [])) }
     {
         let mut inner = self.inner;
-        inner.push(InnerBlock::new(nest, table));
+        inner.push(InnerBlock::new(nest, table)).unwrap();
         SheetQuery { inner, ..self }
     }
 
@@ -172,7 +155,7 @@ impl SheetQuery {
         ensures { query_of result ≡ with_part (query_of self) (Part.Selected column) }
     {
         let mut outputs = self.outputs;
-        outputs.push(column);
+        outputs.push(column).unwrap();
         SheetQuery { outputs, ..self }
     }
 

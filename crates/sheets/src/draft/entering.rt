@@ -1,7 +1,7 @@
 // Entries judged, and taken.
-ghost use Rattle.std.specs.Prelude.{◌≡◌, ◌≤◌, false, is_ok, Ok};
-ghost use Rattle.std.specs.Option.{option_map};
-ghost use Rattle.meaning.specs.Spelling.{current, in_place, in_turn, all_by_equality, over_limit, nothing_selected, verdict, sheet_answer, opened, ends, entered_by, entered};
+ghost use Rattle.std.specs.Prelude.{◌≡◌, ◌≤◌, false, is_ok, Some, None, Ok};
+ghost use Rattle.std.specs.Option.{option_copied, option_map};
+ghost use Rattle.meaning.specs.Spelling.{current, in_turn, all_by_equality, over_limit, nothing_selected, verdict_on, verdict, sheet_answer, ends, entered_by, entered};
 ghost use Rattle.sheets.specs.Held.{query_of};
 ghost use Rattle.sheets.specs.Drafts.{draft_of};
 
@@ -26,11 +26,27 @@ impl Draft {
         }
     }
 
+    // The query so far.
+    pub(crate) fn query(&self) -> Option<&SheetQuery>
+        ensures { option_map query_of (option_copied result) ≡ (draft_of self.now).query }
+    {
+        match self {
+            Draft::Fresh => None,
+            Draft::Open(query) | Draft::Ended(query) => Some(query),
+        }
+    }
+
+    pub(crate) fn is_ended(&self) -> bool
+        ensures { result ≡ (draft_of self.now).ended }
+    {
+        matches!(self, Draft::Ended(_))
+    }
+
     // The number of the current block.
     fn current(&self) -> u8
         ensures { result ≡ current (draft_of self.now) }
     {
-        match &self.query {
+        match self.query() {
             Some(query) => query.depth() as u8,
             None => 0,
         }
@@ -43,7 +59,13 @@ impl Draft {
         if !self.in_turn(entry) {
             return Err(Refusal::OutOfTurn);
         }
-        let part = entry.read().ok_or(Refusal::OutOfRange)?;
+        self.judged(Part::try_from(entry)?)
+    }
+
+    // The same of an entry whose numbers are in range.
+    fn judged(&self, part: Part) -> Result<Part, Refusal>
+        ensures { result ≡ verdict_on (draft_of self.now).query (Some part) }
+    {
         if all_by_equality(part) {
             return Err(Refusal::AllByEquality);
         }
@@ -59,75 +81,54 @@ impl Draft {
     fn in_turn(&self, entry: Entry) -> bool
         ensures { result ≡ in_turn (draft_of self.now) entry }
     {
-        if self.ended {
-            return false;
-        }
-        match (&self.query, entry) {
-            (None, Entry::Open { .. }) => true,
-            (None, _) => false,
-            (Some(_), Entry::Open { .. }) => false,
-            (Some(query), Entry::Link { .. }) => query.depth() >= 1,
-            (Some(_), _) => true,
+        match (self, entry) {
+            (Draft::Fresh, Entry::Open { .. }) => true,
+            (Draft::Open(_), Entry::Open { .. }) => false,
+            (Draft::Open(query), Entry::Link { .. }) => query.depth() >= 1,
+            (Draft::Open(_), _) => true,
+            _ => false,
         }
     }
 
     fn over_limit(&self, part: Part) -> bool
         ensures { result ≡ over_limit (draft_of self.now).query part }
     {
-        match &self.query {
-            Some(query) => query.over_limit(part),
-            None => false,
-        }
+        self.query().is_some_and(|query| query.over_limit(part))
     }
 
     fn nothing_selected(&self, part: Part) -> bool
         ensures { result ≡ nothing_selected (draft_of self.now).query part }
     {
-        match &self.query {
-            Some(query) => query.nothing_selected(part),
-            None => false,
-        }
+        self.query()
+            .is_some_and(|query| query.nothing_selected(part))
     }
 
     // The draft after a taken entry.
     fn with_part(self, part: Part) -> Draft
-        requires { over_limit (draft_of self).query part ≡ false }
+        requires room { over_limit (draft_of self).query part ≡ false }
+        requires opening { (draft_of self).query ≡ None → ends part ≡ false }
         ensures { draft_of result ≡ entered_by (draft_of self) (Ok part) }
     {
-        let query = match self.query {
-            Some(query) => Some(query.with_part(part)),
-            None => opened(part),
-        };
-        Draft {
-            query,
-            ended: ends(part),
+        match (self, part) {
+            (Draft::Fresh, Part::Outermost { table }) => Draft::Open(SheetQuery::new(table)),
+            (Draft::Fresh, _) => Draft::Fresh,
+            (Draft::Open(query) | Draft::Ended(query), Part::Finished) => Draft::Ended(query),
+            (Draft::Open(query) | Draft::Ended(query), _) => Draft::Open(query.with_part(part)),
         }
     }
-}
-
-fn opened(part: Part) -> Option<SheetQuery>
-    ensures { option_map query_of result ≡ opened part }
-{
-    match part {
-        Part::Outermost { table } => Some(SheetQuery::new(table)),
-        _ => None,
-    }
-}
-
-fn ends(part: Part) -> bool
-    ensures { result ≡ ends part }
-{
-    matches!(part, Part::Finished)
 }
 
 fn all_by_equality(part: Part) -> bool
     ensures { result ≡ all_by_equality part }
 {
-    match part {
+    matches!(
+        part,
         Part::Nested {
-            nest: Nest::All { comparison, .. },
+            nest: Nest::All {
+                comparison: Comparison::Equal | Comparison::NotEqual,
+                ..
+            },
             ..
-        } => matches!(comparison, Comparison::Equal | Comparison::NotEqual),
-        _ => false,
-    }
+        }
+    )
 }

@@ -19,10 +19,7 @@ impl Sheet {
         ensures { sheet_of result ≡ fresh }
     {
         Sheet {
-            draft: Draft {
-                query: None,
-                ended: false,
-            },
+            draft: Draft::Fresh,
         }
     }
 
@@ -113,13 +110,13 @@ impl Sheet {
     pub fn query(&self) -> Option<SheetQuery>
         ensures { option_map query_of result ≡ (sheet_of self.now).query }
     {
-        self.draft.query
+        self.draft.query().copied()
     }
 
     // Whether a finish was taken.
     pub fn is_finished(&self) -> bool
         ensures { result ≡ (sheet_of self.now).ended }
     {
-        self.draft.ended
+        self.draft.is_ended()
     }
 }

@@ -2,7 +2,6 @@
 use crate::sheet::Sheet;
 use queries::Entry;
 use std::process::Abort;
-use std::test::Fail;
 use terms::{Fault, Refusal};
 
 fn takes(rt: &impl Abort, sheet: &mut Sheet, entry: Entry) {
@@ -279,7 +278,7 @@ fn finish_wants_a_select(rt: HostRuntime) {
 }
 
 #[test]
-fn the_calls_by_name(rt: HostRuntime) -> Result<(), Fail> {
+fn the_calls_by_name(rt: HostRuntime) {
     let mut sheet = Sheet::fresh();
     assert_eq!(rt; sheet.open(1), Ok(()));
     assert_eq!(rt; sheet.test(2, 3, 9), Ok(()));
@@ -287,18 +286,11 @@ fn the_calls_by_name(rt: HostRuntime) -> Result<(), Fail> {
     assert_eq!(rt; sheet.nest(1, 2, 2, 1, 1, 2), Ok(()));
     assert_eq!(rt; sheet.link(1, 1, 1), Ok(()));
     assert_eq!(rt; sheet.finish(), Ok(()));
-    let Some(query) = sheet.query() else {
-        assert!(rt; false);
-        return Ok(());
-    };
+    let query = sheet.query().expect(&rt, "a query");
     assert_eq!(rt; query.table, 1);
     assert_eq!(rt; query.tests.len(), 1);
     assert_eq!(rt; query.outputs.as_slice(), &[1u8][..]);
-    let Some(block) = query.inner.last() else {
-        assert!(rt; false);
-        return Ok(());
-    };
+    let block = query.inner.last().expect(&rt, "an inner block");
     assert_eq!(rt; block.table, 2);
     assert_eq!(rt; block.links.len(), 1);
-    Ok(())
 }

@@ -1,4 +1,4 @@
-use Rattle.std.proofs.Common.{◌<◌, length, sym, ap, ◌∙◌}
+use Rattle.std.proofs.Common.{is_ok, ◌<◌, length, sym, ap, ◌∙◌}
 use Rattle.meaning.specs.Spelling.{with_test, with_inner}
 use Rattle.sheets.specs.Held.{query_of}
 use Rattle.sheets.proofs.Newest.{pushed, revised_by, test_newest, test_outermost}
@@ -17,5 +17,5 @@ returns-in-None c =
     let outermost = test_outermost c.args.test q q.inner c.in-None.ensures in
     let room : length q.tests < 6 = rw (sym c.in-None.ensures) at c.requires in
     ap (λ tests. record { table = q.table; tests = tests; inner = q.inner; outputs = q.outputs })
-    (pushed q.tests _ c.args.test c.push.result 6 c.push.ensures.room c.push.ensures.items room)
+    (pushed q.tests _ c.args.test (is_ok c.push.result) 6 c.push.ensures.room c.push.ensures.items room)
     ∙ sym outermost
