@@ -71,7 +71,7 @@ def twins():
             continue
         for kind, name, at, whole in items(text):
             s = shape(body(kind, whole))
-            if len(s) > (60 if kind == 'fn' else 45):
+            if len(s) > (60 if kind == 'fn' else 30):
                 seen[s].append((p, line_of(text, at), name))
     return [places for places in seen.values() if len(places) > 1]
 

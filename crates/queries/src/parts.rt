@@ -1,4 +1,5 @@
-// The conditions of a block on its rows.
+// The conditions of a block on its rows. A test and a link are two types, and no generic one, so that what a column is
+// compared with has a name of its own in each.
 use terms::Comparison;
 
 // A test: a column of the block against a constant.

@@ -1,11 +1,13 @@
 -- What is said of a query's newest inner block, as the code holds it and as it means.
-use Rattle.std.proofs.Common.{◌≡◌, ℕ, ◌<◌, Bool, true, cond, ltb, List, [], ◌∷◌, ◌++◌, map, length, Some, None, refl, ap, arith}
+use Rattle.std.proofs.Common.{◌≡◌, ℕ, ◌<◌, Bool, true, cond, ltb, List, [], ◌∷◌, ◌++◌, map, length, Some, None, refl, ap, ◌∙◌, arith}
 use Rattle.std.proofs.lemmas.Bool.Decides.{nat_tests}
 use Rattle.std.specs.Option.{option_map}
 use Rattle.bounded.specs.Listed.{latest, revised}
 use Rattle.queries.specs.declared.parts.Test.{Test}
 use Rattle.meaning.specs.Queries.{Inner, Query}
 use Rattle.meaning.specs.Spelling.{with_test, with_inner, add_test}
+use Rattle.sheets.specs.declared.blocks.InnerBlock.{InnerBlock}
+use Rattle.sheets.specs.Held.{inner_of}
 
 pub latest-map : {A B : Type 0} (f : A → B) (xs : List A) → option_map f (latest xs) ≡ latest (map f xs)
 latest-map f [] = refl
@@ -27,6 +29,11 @@ pub revised_none : {B : Type 0} (g : B → B) (xs : List B) → None ≡ latest 
 revised_none g [] e = refl
 revised_none g (z ∷ []) e = cc
 revised_none g (z ∷ (w ∷ ws)) e = ap (λ v. z ∷ v) (revised_none g (w ∷ ws) e)
+
+-- the newest inner block changed by f, as the code holds the list
+pub newest_changed : (f : Inner → Inner) (xs ys : List InnerBlock) (b changed : InnerBlock) → Some (inner_of b) ≡ latest (map inner_of xs) → inner_of changed ≡ f (inner_of b) → ys ≡ revised (λ _. changed) xs → map inner_of ys ≡ revised f (map inner_of xs)
+newest_changed f xs ys b changed newest by set =
+    ap (map inner_of) set ∙ map-revised inner_of xs changed ∙ revised_by f (map inner_of xs) (inner_of b) (inner_of changed) newest by
 
 -- a test goes to the newest inner block, or to block 0 where there is none
 pub test_newest : (t : Test) (q : Query) (inner : List Inner) (b : Inner) → Some b ≡ latest inner → add_test t q inner ≡ with_inner q (revised (with_test t) inner)

@@ -21,22 +21,18 @@ impl InnerBlock {
         }
     }
 
-    fn with_test(self, test: Test) -> InnerBlock
-        requires { length (inner_of self).tests < 6 }
-        ensures { inner_of result ≡ with_test test (inner_of self) }
+    fn add_test(&mut self, test: Test)
+        requires { length (inner_of self.old).tests < 6 }
+        ensures { inner_of self.new ≡ with_test test (inner_of self.old) }
     {
-        let mut tests = self.tests;
-        tests.push(test).unwrap();
-        InnerBlock { tests, ..self }
+        self.tests.push(test).unwrap();
     }
 
-    fn with_link(self, link: Link) -> InnerBlock
-        requires { length (inner_of self).links < 3 }
-        ensures { inner_of result ≡ with_link link (inner_of self) }
+    fn add_link(&mut self, link: Link)
+        requires { length (inner_of self.old).links < 3 }
+        ensures { inner_of self.new ≡ with_link link (inner_of self.old) }
     {
-        let mut links = self.links;
-        links.push(link).unwrap();
-        InnerBlock { links, ..self }
+        self.links.push(link).unwrap();
     }
 }
 
@@ -108,68 +104,43 @@ impl SheetQuery {
         }
     }
 
-    fn with_test(self, test: Test) -> SheetQuery
-        requires { conditions (query_of self) (latest (query_of self).inner) < 6 }
-        ensures { query_of result ≡ add_test test (query_of self) (query_of self).inner }
+    // A test goes to the newest inner block, or to block 0 where there is none.
+    fn add_test(&mut self, test: Test)
+        requires { conditions (query_of self.old) (latest (query_of self.old).inner) < 6 }
+        ensures { query_of self.new ≡ add_test test (query_of self.old) (query_of self.old).inner }
     {
         match self.newest() {
-            Some(block) => self.with_newest(block.with_test(test)),
-            None => {
-                let mut tests = self.tests;
-                tests.push(test).unwrap();
-                SheetQuery { tests, ..self }
+            Some(mut block) => {
+                block.add_test(test);
+                self.inner.set_last(block);
             }
+            None => self.tests.push(test).unwrap(),
         }
     }
 
-    fn with_link(self, link: Link) -> SheetQuery
-        requires { links (latest (query_of self).inner) < 3 }
-        ensures { query_of result ≡ with_inner (query_of self) (revised (with_link link) (query_of self).inner) }
+    fn add_link(&mut self, link: Link)
+        requires { links (latest (query_of self.old).inner) < 3 }
+        ensures { query_of self.new ≡ with_inner (query_of self.old) (revised (with_link link) (query_of self.old).inner) }
     {
-        match self.newest() {
-            Some(block) => self.with_newest(block.with_link(link)),
-            None => self,
+        if let Some(mut block) = self.newest() {
+            block.add_link(link);
+            self.inner.set_last(block);
         }
     }
 
-    // The query with `block` in the place of its newest inner block.
-    fn with_newest(self, block: InnerBlock) -> SheetQuery
-        ensures { query_of result ≡ with_inner (query_of self) (revised (λ _. inner_of block) (query_of self).inner) }
-    {
-        let mut inner = self.inner;
-        inner.set_last(block);
-        SheetQuery { inner, ..self }
-    }
-
-    fn with_inner(self, nest: Nest, table: u8) -> SheetQuery
-        requires { length (query_of self).inner < 3 }
-        ensures { query_of result ≡ with_inner (query_of self) ((query_of self).inner ++ (fresh_inner nest table ∷ [])) }
-    {
-        let mut inner = self.inner;
-        inner.push(InnerBlock::new(nest, table)).unwrap();
-        SheetQuery { inner, ..self }
-    }
-
-    fn with_output(self, column: u8) -> SheetQuery
-        requires { length (query_of self).outputs < 6 }
-        ensures { query_of result ≡ with_part (query_of self) (Part.Selected column) }
-    {
-        let mut outputs = self.outputs;
-        outputs.push(column).unwrap();
-        SheetQuery { outputs, ..self }
-    }
-
-    // The query with what a taken entry brings.
-    pub(crate) fn with_part(self, part: Part) -> SheetQuery
-        requires { over_limit (Some (query_of self)) part ≡ false }
-        ensures { query_of result ≡ with_part (query_of self) part }
+    // Adds what a taken entry brings.
+    pub(crate) fn add(&mut self, part: Part)
+        requires { over_limit (Some (query_of self.old)) part ≡ false }
+        ensures { query_of self.new ≡ with_part (query_of self.old) part }
     {
         match part {
-            Part::Outermost { .. } | Part::Finished => self,
-            Part::Tested { test } => self.with_test(test),
-            Part::Linked { link } => self.with_link(link),
-            Part::Nested { nest, table } => self.with_inner(nest, table),
-            Part::Selected { column } => self.with_output(column),
+            Part::Outermost { .. } | Part::Finished => {}
+            Part::Tested { test } => self.add_test(test),
+            Part::Linked { link } => self.add_link(link),
+            Part::Nested { nest, table } => {
+                self.inner.push(InnerBlock::new(nest, table)).unwrap();
+            }
+            Part::Selected { column } => self.outputs.push(column).unwrap(),
         }
     }
 }

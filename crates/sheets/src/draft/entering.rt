@@ -19,7 +19,7 @@ impl Draft {
     {
         match self.verdict(entry) {
             Ok(part) => {
-                *self = self.with_part(part);
+                self.add(part);
                 Ok(())
             }
             Err(refusal) => Err(Fault::on_sheet(refusal, self.current())),
@@ -103,18 +103,21 @@ impl Draft {
             .is_some_and(|query| query.nothing_selected(part))
     }
 
-    // The draft after a taken entry.
-    fn with_part(self, part: Part) -> Draft
-        requires room { over_limit (draft_of self).query part ≡ false }
-        requires opening { (draft_of self).query ≡ None → ends part ≡ false }
-        ensures { draft_of result ≡ entered_by (draft_of self) (Ok part) }
+    // Goes on by what a taken entry brings.
+    fn add(&mut self, part: Part)
+        requires room { over_limit (draft_of self.old).query part ≡ false }
+        requires opening { (draft_of self.old).query ≡ None → ends part ≡ false }
+        ensures { draft_of self.new ≡ entered_by (draft_of self.old) (Ok part) }
     {
-        match (self, part) {
+        *self = match (*self, part) {
             (Draft::Fresh, Part::Outermost { table }) => Draft::Open(SheetQuery::new(table)),
             (Draft::Fresh, _) => Draft::Fresh,
             (Draft::Open(query) | Draft::Ended(query), Part::Finished) => Draft::Ended(query),
-            (Draft::Open(query) | Draft::Ended(query), _) => Draft::Open(query.with_part(part)),
-        }
+            (Draft::Open(mut query) | Draft::Ended(mut query), _) => {
+                query.add(part);
+                Draft::Open(query)
+            }
+        };
     }
 }
 

@@ -1,5 +1,6 @@
 // The calls on a sheet. Each answers the definition's verdict on its entry, and leaves the sheet that the definition says:
-// a declined entry changes nothing.
+// a declined entry changes nothing. Each kind of entry has a call of its own, which takes the numbers as the observer gave
+// them: any may be out of range, so none has a type that would rule that out.
 ghost use Rattle.std.specs.Prelude.{◌≡◌};
 ghost use Rattle.std.specs.Option.{option_map};
 ghost use Rattle.queries.specs.declared.entries.Entry.TheVariants as entries;

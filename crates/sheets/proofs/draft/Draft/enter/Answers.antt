@@ -4,8 +4,8 @@ use Rattle.sheets.specs.Drafts.{draft_of}
 use Rattle.sheets.proofs.Verdicts.{taken_opening}
 use Rattle.sheets.proofs.draft.Draft.enter.Goals as goal
 
-pub with_part-requires : goal.with_part-requires
-with_part-requires c =
+pub add-requires : goal.add-requires
+add-requires c =
     let s = draft_of c.args.self.now in
     record {
       room = taken_not_over s c.args.entry c.in-Ok.part (sym c.in-Ok.ensures);
