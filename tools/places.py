@@ -22,6 +22,7 @@ BY_TEXT = {
     '1d a number in the place of a kind': r'\bkind: u16|fn numbered\(|fn number\(|fn code\(|Option<Cell>',
     '1e a flag beside a value': r'^\s*(pub(\(crate\))? )?\w+: bool,',
     '1f a result that says nothing': r'-> u8\n(    ensures [^\n]*\n)+\{\n    0\n\}',
+    '1g an enum of two cases, one of them empty': r'enum \w+ \{\n(?: *//[^\n]*\n)* +\w+,\n(?: *//[^\n]*\n)* +\w+(?: \{[^}]*\}|\([^)]*\)),\n\}|enum \w+ \{\n(?: *//[^\n]*\n)* +\w+(?: \{[^}]*\}|\([^)]*\)),\n(?: *//[^\n]*\n)* +\w+,\n\}',
     '3a while': r'^ *(while |loop )',
     '3b an index that counts up in a range': r"for \w+ in 0\.\.",
     '3c a counter or a place moved on by hand': r'^\s*\w+ (\+= [1-9]\w*|\+= row_width[^;]*|/= 2|= \w+\.saturating_add\(1\));',

@@ -15,7 +15,8 @@ pub enum Function {
     House = 5,
 }
 
-// What an aggregate is taken of: COUNT(*) of the rows themselves, any other of the cells of one column.
+// What an aggregate is taken of: COUNT(*) of the rows themselves, any other of the cells of one column. It is no Option, for
+// COUNT(*) lacks nothing.
 #[derive(Clone, Copy, PartialEq, Eq, Debug)]
 pub enum Aggregate {
     CountRows,

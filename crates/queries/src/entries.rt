@@ -2,7 +2,8 @@
 use crate::nests::Nest;
 use crate::parts::{Link, Test};
 
-// An entry as it was given: any of its numbers may be out of range. Those that an entry does not use are not looked at.
+// An entry as it was given: any of its numbers may be out of range, so what will be an enum in a `Part` is a number here.
+// Those that an entry does not use are not looked at.
 #[derive(Clone, Copy, PartialEq, Eq, Debug)]
 pub enum Entry {
     Open {

@@ -3,7 +3,8 @@
 use crate::aggregates::Aggregate;
 use terms::Comparison;
 
-// What FILTER compares with a tuple's answer: a column of the parent, or the number 0.
+// What FILTER compares with a tuple's answer: a column of the parent, or the number 0. It is no Option, for 0 is no column
+// that is missing.
 #[derive(Clone, Copy, PartialEq, Eq, Debug)]
 pub enum Operand {
     Column { column: u8 },
