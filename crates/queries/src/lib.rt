@@ -5,6 +5,7 @@ mod aggregates;
 mod entries;
 mod nests;
 mod parts;
+mod printing;
 mod ranges;
 mod steps;
 

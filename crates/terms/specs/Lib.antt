@@ -3,3 +3,4 @@ pub mod Numbered
 pub mod Comparisons
 pub mod Faults
 pub mod Tables
+pub mod Printed

@@ -5,6 +5,7 @@ mod cells;
 mod comparisons;
 mod faults;
 mod limits;
+mod printing;
 mod refusals;
 
 pub use cells::{Cell, WorkCell, same_cell};
