@@ -1,89 +1,94 @@
 // Tables as comma-separated values: a line for each row, an empty field for an absent cell.
-use anyhow::anyhow;
+use crate::copying::PlainTable;
 use sources::Shape;
 use std::alloc::{AllocError, Global};
-use terms::Cell;
+use std::fmt;
+use std::num::ParseIntError;
+use terms::{Cell, is_column};
+use thiserror::Error;
 
-// A table read from text.
-#[derive(Drop)]
-pub(crate) struct CsvTable {
-    pub(crate) shape: Shape,
-    pub(crate) cells: Vec<Cell>,
+// Why a text is no table.
+#[derive(Debug, Drop, Error)]
+pub(crate) enum CsvError {
+    #[error("line {line}: field {field} is no whole number of a cell's range")]
+    BadField {
+        line: usize,
+        field: usize,
+    },
+    #[error("line {line}: {fields} fields, but the first line has {columns}")]
+    UnequalLine {
+        line: usize,
+        fields: usize,
+        columns: usize,
+    },
+    #[error("a table has 1 to 6 columns")]
+    ColumnCount,
+    #[error(transparent)]
+    Memory(#[from(alloc)] AllocError),
 }
 
-pub(crate) fn read_csv(heap: Global, text: &str) -> anyhow::Result<CsvTable> {
+pub(crate) fn read_csv(heap: Global, text: &str) -> Result<PlainTable, CsvError> {
+    let columns = text.lines().next().map_or(0, field_count);
     let mut cells = Vec::new(heap);
-    let mut columns = 0usize;
-    let mut rows = 0usize;
-    for line in text.lines() {
-        let fields = push_fields(heap, &mut cells, line, rows)?;
-        if rows == 0 {
-            columns = fields;
-        }
-        rows = rows.saturating_add(1);
+    for (line, fields) in (1..).zip(text.lines()) {
+        push_fields(&mut cells, line, fields)?;
+        let fields = field_count(fields);
         if fields != columns {
-            return Err(anyhow!(format!(in heap;
-                "line {rows}: {fields} fields, but the first line has {columns}"
-            )?));
+            return Err(CsvError::UnequalLine {
+                line,
+                fields,
+                columns,
+            });
         }
     }
+    let rows = text.lines().count();
     match u8::try_from(columns) {
-        Ok(columns) if columns >= 1 && columns <= 6 => Ok(CsvTable {
+        Ok(columns) if is_column(columns) => Ok(PlainTable {
             shape: Shape { columns, rows },
             cells,
         }),
-        _ => Err(anyhow!("a table has 1 to 6 columns")),
+        _ => Err(CsvError::ColumnCount),
     }
 }
 
-// Reads a line's fields, and answers how many there are; `before` lines stand above it.
-fn push_fields(
-    heap: Global,
-    cells: &mut Vec<Cell>,
-    line: &str,
-    before: usize,
-) -> anyhow::Result<usize> {
-    let mut fields = 0usize;
-    for field in line.split(',') {
-        fields = fields.saturating_add(1);
-        match read_field(field) {
-            Some(cell) => cells.push(cell)?,
-            None => {
-                let number = before.saturating_add(1);
-                return Err(anyhow!(format!(in heap;
-                    "line {number}: field {fields} is no whole number of a cell's range"
-                )?));
-            }
+fn field_count(line: &str) -> usize {
+    line.split(',').count()
+}
+
+// Puts the fields of the line with a number behind the cells before it.
+fn push_fields(cells: &mut Vec<Cell>, line: usize, fields: &str) -> Result<(), CsvError> {
+    for (field, text) in (1..).zip(fields.split(',')) {
+        let cell = read_field(text).map_err(|_| CsvError::BadField { line, field })?;
+        cells.push(cell)?;
+    }
+    Ok(())
+}
+
+fn read_field(text: &str) -> Result<Cell, ParseIntError> {
+    if text.is_empty() {
+        Ok(None)
+    } else {
+        text.parse().map(Some)
+    }
+}
+
+impl fmt::Display for PlainTable {
+    fn fmt<W: fmt::Write>(&self, f: &mut fmt::Formatter<W>) -> fmt::Result {
+        for row in self.cells.chunks(self.shape.columns as usize) {
+            write_line(f, row)?;
         }
-    }
-    Ok(fields)
-}
-
-fn read_field(field: &str) -> Option<Cell> {
-    if field.is_empty() {
-        return Some(None);
-    }
-    match field.parse::<i32>() {
-        Ok(number) => Some(Some(number)),
-        Err(_) => None,
+        Ok(())
     }
 }
 
-// The cells of a table, one row behind the other, as text.
-pub(crate) fn csv_text(heap: Global, columns: u8, cells: &[Cell]) -> Result<String, AllocError> {
-    let mut text = String::new(heap);
-    let mut column = 0u8;
-    for cell in cells {
+fn write_line<W: fmt::Write>(f: &mut fmt::Formatter<W>, row: &[Cell]) -> fmt::Result {
+    for (i, cell) in row.iter().enumerate() {
+        if i > 0 {
+            f.write_str(",")?;
+        }
         if let Some(number) = cell {
-            text.push_str(format!(in heap; "{number}")?.as_str())?;
-        }
-        column = column.saturating_add(1);
-        if column >= columns {
-            text.push('\n')?;
-            column = 0;
-        } else {
-            text.push(',')?;
+            write!(f, "{number}")?;
         }
     }
-    Ok(text)
+    f.write_str("\n")
 }

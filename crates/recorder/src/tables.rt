@@ -1,108 +1,117 @@
 // Tables as text, in aligned columns.
 use sources::Source;
 use std::alloc::{AllocError, Global};
-use terms::{Cell, MAX_COLUMNS};
+use std::fmt;
+use terms::{Cell, Fault, MAX_COLUMNS};
 
-type FetchedRow = Option<[Cell; MAX_COLUMNS]>;
+// The cells of a row, and absent ones after them.
+pub(crate) type Row = [Cell; MAX_COLUMNS];
 
-// A table with its heading, each row fetched once; nothing where no table has the number.
-pub(crate) fn table_text<S: Source>(
-    heap: Global,
-    source: &mut S,
-    table: u8,
-) -> Result<String, AllocError> {
-    let Some(shape) = source.shape(table) else {
-        return Ok(String::new(heap));
-    };
-    let columns = shape.columns;
-    let rows = shape.rows;
-    let mut text = format!(in heap; "\nTable {table}: {columns} columns, {rows} rows\n")?;
-    let fetched = fetch_rows(heap, source, table, rows)?;
-    let widths = column_widths(heap, fetched.as_slice())?;
-    push_heading(heap, &mut text, columns, &widths)?;
-    for row in fetched.as_slice() {
-        push_row(heap, &mut text, *row, columns, &widths)?;
-    }
-    Ok(text)
+const HEADINGS: [&str; MAX_COLUMNS] = ["C1", "C2", "C3", "C4", "C5", "C6"];
+
+// A table with each row fetched once: None for one that is unreadable. Each column has a width to be shown in.
+#[derive(Drop)]
+pub(crate) struct FetchedTable {
+    number: u8,
+    rows: Vec<Option<Row>>,
+    widths: Vec<usize>,
 }
 
-// The rows of a table; None for one that is unreadable.
-fn fetch_rows<S: Source>(
-    heap: Global,
-    source: &mut S,
-    table: u8,
-    rows: usize,
-) -> Result<Vec<FetchedRow>, AllocError> {
-    let mut fetched = Vec::new(heap);
-    for row in 0..rows {
-        let mut place = [None; MAX_COLUMNS];
-        match source.fetch(table, row, &mut place) {
-            Ok(()) => fetched.push(Some(place))?,
-            Err(_) => fetched.push(None)?,
-        }
+impl FetchedTable {
+    // The table with a number; None where there is none.
+    pub(crate) fn fetch<S: Source>(
+        heap: Global,
+        source: &mut S,
+        number: u8,
+    ) -> Result<Option<FetchedTable>, AllocError> {
+        let Some(shape) = source.shape(number) else {
+            return Ok(None);
+        };
+        let rows: Vec<Option<Row>> = (0..shape.rows)
+            .map(|row| fetch_row(source, number, row).ok())
+            .collect(heap)?;
+        let widths = column_widths(heap, shape.columns, rows.as_slice())?;
+        Ok(Some(FetchedTable {
+            number,
+            rows,
+            widths,
+        }))
     }
-    Ok(fetched)
 }
 
-// How wide each column is printed: as its widest cell, and at least as its heading.
-fn column_widths(heap: Global, rows: &[FetchedRow]) -> Result<[usize; MAX_COLUMNS], AllocError> {
-    let mut widths = [2; MAX_COLUMNS];
-    for row in rows {
-        if let Some(cells) = row {
-            for i in 0..MAX_COLUMNS {
-                widths[i] = widths[i].max(cell_text(heap, cells[i])?.len());
-            }
-        }
+// The cells of a row of a table.
+pub(crate) fn fetch_row<S: Source>(source: &mut S, table: u8, row: usize) -> Result<Row, Fault> {
+    let mut cells = [None; MAX_COLUMNS];
+    source.fetch(table, row, &mut cells)?;
+    Ok(cells)
+}
+
+// How wide each column is shown: as its widest cell, and at least as its heading.
+fn column_widths(
+    heap: Global,
+    columns: u8,
+    rows: &[Option<Row>],
+) -> Result<Vec<usize>, AllocError> {
+    let mut widths = vec![in heap; 2; columns as usize]?;
+    for cells in rows.iter().flatten() {
+        widen(heap, widths.as_mut_slice(), cells)?;
     }
     Ok(widths)
 }
 
-fn push_heading(
-    heap: Global,
-    text: &mut String,
-    columns: u8,
-    widths: &[usize; MAX_COLUMNS],
-) -> Result<(), AllocError> {
-    let mut column = 0u8;
-    for width in widths.iter().take(columns as usize) {
-        column = column.saturating_add(1);
-        let heading = format!(in heap; "C{column}")?;
-        push_padded(text, heading.as_str(), *width)?;
+fn widen(heap: Global, widths: &mut [usize], cells: &Row) -> Result<(), AllocError> {
+    for (width, cell) in widths.iter_mut().zip(cells) {
+        let shown = ShownCell(*cell).to_string(heap)?;
+        *width = (*width).max(shown.len());
     }
-    text.push('\n')
+    Ok(())
 }
 
-fn push_row(
-    heap: Global,
-    text: &mut String,
-    row: FetchedRow,
-    columns: u8,
-    widths: &[usize; MAX_COLUMNS],
-) -> Result<(), AllocError> {
-    match row {
-        Some(cells) => {
-            for (cell, width) in cells.iter().zip(widths).take(columns as usize) {
-                let shown = cell_text(heap, *cell)?;
-                push_padded(text, shown.as_str(), *width)?;
-            }
+impl fmt::Display for FetchedTable {
+    fn fmt<W: fmt::Write>(&self, f: &mut fmt::Formatter<W>) -> fmt::Result {
+        let number = self.number;
+        let columns = self.widths.len();
+        let rows = self.rows.len();
+        write!(f, "\nTable {number}: {columns} columns, {rows} rows\n")?;
+        write_headings(f, self.widths.as_slice())?;
+        for row in &self.rows {
+            write_row(f, row, self.widths.as_slice())?;
         }
-        None => text.push_str("  unreadable")?,
-    }
-    text.push('\n')
-}
-
-fn cell_text(heap: Global, cell: Cell) -> Result<String, AllocError> {
-    match cell {
-        Some(number) => format!(in heap; "{number}"),
-        None => String::from_str(heap, "-"),
+        Ok(())
     }
 }
 
-// Two blanks, and the word at the right end of its column.
-fn push_padded(text: &mut String, word: &str, width: usize) -> Result<(), AllocError> {
-    text.push_str("  ")?;
-    for _ in word.len()..width {
-        text.push(' ')?;
+fn write_headings<W: fmt::Write>(f: &mut fmt::Formatter<W>, widths: &[usize]) -> fmt::Result {
+    for (heading, &width) in HEADINGS.iter().zip(widths) {
+        write!(f, "  {heading:>width$}")?;
     }
-    text.push_str(word)
+    f.write_str("\n")
+}
+
+fn write_row<W: fmt::Write>(
+    f: &mut fmt::Formatter<W>,
+    row: &Option<Row>,
+    widths: &[usize],
+) -> fmt::Result {
+    let Some(cells) = row else {
+        return f.write_str("  unreadable\n");
+    };
+    for (cell, &width) in cells.iter().zip(widths) {
+        let shown = ShownCell(*cell);
+        write!(f, "  {shown:>width$}")?;
+    }
+    f.write_str("\n")
+}
+
+// A cell as a table shows it.
+#[derive(Clone, Copy)]
+struct ShownCell(Cell);
+
+impl fmt::Display for ShownCell {
+    fn fmt<W: fmt::Write>(&self, f: &mut fmt::Formatter<W>) -> fmt::Result {
+        match self.0 {
+            Some(number) => fmt::Display::fmt(&number, f),
+            None => f.pad("-"),
+        }
+    }
 }
