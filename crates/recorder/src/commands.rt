@@ -16,11 +16,11 @@ pub(crate) fn load(image: &[u8]) -> Result<Card<'_>, RefusedLoad> {
 // Copies the tables of one card image to a fresh one, and compares the two.
 pub(crate) fn copy(rt: &HostRuntime, from: &str, to: &str) -> anyhow::Result<()> {
     let image = fs::read(rt, from)?;
-    let mut card = load(image.as_slice())?;
+    let mut card = load(&image)?;
     let copied = copied_image(rt.alloc(), &mut card)?;
-    let copy = load(copied.as_slice())?;
+    let copy = load(&copied)?;
     ensure!(same_records(&card, &copy), "the copy differs");
-    write_whole(rt, to, copied.as_slice())?;
+    write_whole(rt, to, &copied)?;
     let size = copied.len();
     println!(rt; "Copied {from} to {to}, {size} bytes; every table has the same record.")?;
     Ok(())
@@ -30,10 +30,10 @@ pub(crate) fn copy(rt: &HostRuntime, from: &str, to: &str) -> anyhow::Result<()>
 pub(crate) fn import(rt: &HostRuntime, from: &str, number: &str, to: &str) -> anyhow::Result<()> {
     let number = table_number(number)?;
     let text = fs::read_to_string(rt, from)?;
-    let table = read_csv(rt.alloc(), text.as_str())?;
+    let table = read_csv(rt.alloc(), &text)?;
     let mut image = Vec::new(rt.alloc());
     table.push_record(rt.alloc(), number, &mut image)?;
-    write_whole(rt, to, image.as_slice())?;
+    write_whole(rt, to, &image)?;
     let rows = table.shape.rows;
     println!(rt; "Imported {rows} rows from {from} as table {number} of {to}.")?;
     Ok(())
@@ -43,7 +43,7 @@ pub(crate) fn import(rt: &HostRuntime, from: &str, number: &str, to: &str) -> an
 pub(crate) fn export(rt: &HostRuntime, from: &str, number: &str) -> anyhow::Result<()> {
     let number = table_number(number)?;
     let image = fs::read(rt, from)?;
-    let mut card = load(image.as_slice())?;
+    let mut card = load(&image)?;
     let table = PlainTable::fetch(rt.alloc(), &mut card, number)?.context(
         "the card has no table with this number",
     )?;
@@ -59,7 +59,7 @@ fn table_number(text: &str) -> anyhow::Result<u8> {
 // Writes beside the file first and renames then, so that no file is left half written.
 fn write_whole(rt: &HostRuntime, path: &str, bytes: &[u8]) -> anyhow::Result<()> {
     let beside = format!(in rt.alloc(); "{path}.part")?;
-    fs::write(rt, beside.as_str(), bytes)?;
-    fs::rename(rt, beside.as_str(), path)?;
+    fs::write(rt, &beside, bytes)?;
+    fs::rename(rt, &beside, path)?;
     Ok(())
 }

@@ -5,12 +5,12 @@ use crate::tables::fetch_row;
 use cards::Card;
 use sources::{Shape, Source, TableHead};
 use std::alloc::{AllocError, Global};
-use terms::{Cell, Refusal};
+use terms::{Cell, MAX_COLUMNS, MAX_ROWS, Refusal};
 use thiserror::Error;
 use writing::{record_of, write_table};
 
-// No record of a table is longer: 1,024 rows of six columns.
-const LONGEST_RECORD: usize = 25_606;
+// No record of a table is longer: six bytes before the rows, and then each row with its mark.
+const LONGEST_RECORD: usize = 6 + MAX_ROWS * (1 + 4 * MAX_COLUMNS);
 
 // Why a table cannot be copied.
 #[derive(Debug, Drop, Error)]
@@ -66,14 +66,14 @@ impl PlainTable {
             rows: self.shape.rows,
         };
         let mut record = vec![in heap; 0u8; LONGEST_RECORD]?;
-        let size = write_table(head, self.cells.as_slice(), record.as_mut_slice()).map_err(
+        let size = write_table(head, &self.cells, &mut record).map_err(
             |fault| CopyError::RefusedTable {
                 table: number,
                 refusal: fault.refusal,
             },
         )?;
         record.truncate(size);
-        image.extend_from_slice(record.as_slice())?;
+        image.extend_from_slice(&record)?;
         Ok(())
     }
 }

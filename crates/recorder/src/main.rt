@@ -33,8 +33,8 @@ fn run(rt: &HostRuntime) -> anyhow::Result<()> {
             show_sheet(rt)
         }
         [_, path] => {
-            let image = fs::read(rt, *path)?;
-            show_card(rt, path, image.as_slice())
+            let image = fs::read(rt, path)?;
+            show_card(rt, path, &image)
         }
         [_, "copy", from, to] => copy(rt, from, to),
         [_, "export", from, number] => export(rt, from, number),

@@ -30,7 +30,7 @@ impl FetchedTable {
         let rows: Vec<Option<Row>> = (0..shape.rows)
             .map(|row| fetch_row(source, number, row).ok())
             .collect(heap)?;
-        let widths = column_widths(heap, shape.columns, rows.as_slice())?;
+        let widths = column_widths(heap, shape.columns, &rows)?;
         Ok(Some(FetchedTable {
             number,
             rows,
@@ -54,7 +54,7 @@ fn column_widths(
 ) -> Result<Vec<usize>, AllocError> {
     let mut widths = vec![in heap; 2; columns as usize]?;
     for cells in rows.iter().flatten() {
-        widen(heap, widths.as_mut_slice(), cells)?;
+        widen(heap, &mut widths, cells)?;
     }
     Ok(widths)
 }
@@ -73,9 +73,9 @@ impl fmt::Display for FetchedTable {
         let columns = self.widths.len();
         let rows = self.rows.len();
         write!(f, "\nTable {number}: {columns} columns, {rows} rows\n")?;
-        write_headings(f, self.widths.as_slice())?;
+        write_headings(f, &self.widths)?;
         for row in &self.rows {
-            write_row(f, row, self.widths.as_slice())?;
+            write_row(f, row, &self.widths)?;
         }
         Ok(())
     }
