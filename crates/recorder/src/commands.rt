@@ -5,6 +5,7 @@ use crate::refusals::RefusedLoad;
 use anyhow::{Context, anyhow, ensure};
 use cards::Card;
 use std::fs;
+use std::rt::Files;
 
 // The card that an image makes.
 pub(crate) fn load(image: &[u8]) -> Result<Card<'_>, RefusedLoad> {
@@ -14,7 +15,11 @@ pub(crate) fn load(image: &[u8]) -> Result<Card<'_>, RefusedLoad> {
 }
 
 // Copies the tables of one card image to a fresh one, and compares the two.
-pub(crate) fn copy(rt: &HostRuntime, from: &str, to: &str) -> anyhow::Result<()> {
+pub(crate) fn copy(
+    rt: &(impl Files + Print + AllocGlobal),
+    from: &str,
+    to: &str,
+) -> anyhow::Result<()> {
     let image = fs::read(rt, from)?;
     let mut card = load(&image)?;
     let copied = copied_image(rt.alloc(), &mut card)?;
@@ -27,7 +32,12 @@ pub(crate) fn copy(rt: &HostRuntime, from: &str, to: &str) -> anyhow::Result<()>
 }
 
 // Makes a card image of one table of comma-separated values.
-pub(crate) fn import(rt: &HostRuntime, from: &str, number: &str, to: &str) -> anyhow::Result<()> {
+pub(crate) fn import(
+    rt: &(impl Files + Print + AllocGlobal),
+    from: &str,
+    number: &str,
+    to: &str,
+) -> anyhow::Result<()> {
     let number = table_number(number)?;
     let text = fs::read_to_string(rt, from)?;
     let table = read_csv(rt.alloc(), &text)?;
@@ -40,7 +50,11 @@ pub(crate) fn import(rt: &HostRuntime, from: &str, number: &str, to: &str) -> an
 }
 
 // Prints a table of a card image as comma-separated values.
-pub(crate) fn export(rt: &HostRuntime, from: &str, number: &str) -> anyhow::Result<()> {
+pub(crate) fn export(
+    rt: &(impl Files + Print + AllocGlobal),
+    from: &str,
+    number: &str,
+) -> anyhow::Result<()> {
     let number = table_number(number)?;
     let image = fs::read(rt, from)?;
     let mut card = load(&image)?;
@@ -57,7 +71,7 @@ fn table_number(text: &str) -> anyhow::Result<u8> {
 }
 
 // Writes beside the file first and renames then, so that no file is left half written.
-fn write_whole(rt: &HostRuntime, path: &str, bytes: &[u8]) -> anyhow::Result<()> {
+fn write_whole(rt: &(impl Files + AllocGlobal), path: &str, bytes: &[u8]) -> anyhow::Result<()> {
     let beside = format!(in rt.alloc(); "{path}.part")?;
     fs::write(rt, &beside, bytes)?;
     fs::rename(rt, &beside, path)?;

@@ -2,6 +2,7 @@
 #![tactic(auto)]
 
 use anyhow::bail;
+use std::rt::{Env, Files};
 use std::{env, fs};
 
 mod builtin;
@@ -24,7 +25,7 @@ fn main(rt: HostRuntime) -> anyhow::Result<()> {
     run(&rt)
 }
 
-fn run(rt: &HostRuntime) -> anyhow::Result<()> {
+fn run(rt: &(impl Env + Files + Print + AllocGlobal)) -> anyhow::Result<()> {
     let words: Vec<String> = env::args(rt)?.collect(rt.alloc())?;
     let words: Vec<&str> = words.iter().map(String::as_str).collect(rt.alloc())?;
     match words.as_slice() {
@@ -46,7 +47,7 @@ fn run(rt: &HostRuntime) -> anyhow::Result<()> {
 }
 
 // Loads an image, prints each of its tables, and last what the read meter says.
-fn show_card(rt: &HostRuntime, name: &str, image: &[u8]) -> anyhow::Result<()> {
+fn show_card(rt: &(impl Print + AllocGlobal), name: &str, image: &[u8]) -> anyhow::Result<()> {
     let size = image.len();
     println!(rt; "Loading {name}, {size} bytes.")?;
     let mut card = match load(image) {
@@ -68,7 +69,7 @@ fn show_card(rt: &HostRuntime, name: &str, image: &[u8]) -> anyhow::Result<()> {
 }
 
 // Enters a query step by step, and prints what each step answers and what the sheet then holds.
-fn show_sheet(rt: &HostRuntime) -> anyhow::Result<()> {
+fn show_sheet(rt: &impl Print) -> anyhow::Result<()> {
     println!(rt; "\nEntering the sites whose quota equals the number of their picks:")?;
     let mut sheet = Sheet::fresh();
     for entry in QUOTA_MET {

@@ -16,9 +16,9 @@ comparison_sign GreaterOrEqual = codes ">="
 
 -- what a refusal means, in words
 abbrev pub refusal_meaning : Refusal → List ℕ
-refusal_meaning OutOfRange = codes "a number of the entry is out of its range"
-refusal_meaning OutOfTurn = codes "the entry stands where it may not"
-refusal_meaning OverLimit = codes "the entry is one more than a limit"
+refusal_meaning OutOfRange = codes "a number of the entry is out of range"
+refusal_meaning OutOfTurn = codes "the entry may not stand here"
+refusal_meaning OverLimit = codes "the entry is one more than the limit allows"
 refusal_meaning AllByEquality = codes "ALL compares by = or <>"
 refusal_meaning NothingSelected = codes "no output column is selected"
 refusal_meaning SheetUnfinished = codes "the query is not finished"

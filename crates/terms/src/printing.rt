@@ -29,9 +29,9 @@ impl fmt::Display for Refusal {
 
     fn fmt<W: fmt::Write>(&self, f: &mut fmt::Formatter<W>) -> fmt::Result {
         match self {
-            Refusal::OutOfRange => f.write_str("a number of the entry is out of its range"),
-            Refusal::OutOfTurn => f.write_str("the entry stands where it may not"),
-            Refusal::OverLimit => f.write_str("the entry is one more than a limit"),
+            Refusal::OutOfRange => f.write_str("a number of the entry is out of range"),
+            Refusal::OutOfTurn => f.write_str("the entry may not stand here"),
+            Refusal::OverLimit => f.write_str("the entry is one more than the limit allows"),
             Refusal::AllByEquality => f.write_str("ALL compares by = or <>"),
             Refusal::NothingSelected => f.write_str("no output column is selected"),
             Refusal::SheetUnfinished => f.write_str("the query is not finished"),
