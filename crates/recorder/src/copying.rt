@@ -17,7 +17,7 @@ const LONGEST_RECORD: usize = 6 + MAX_ROWS * (1 + 4 * MAX_COLUMNS);
 pub(crate) enum CopyError {
     #[error("row {row} of table {table} is unreadable and cannot be written")]
     UnreadableRow { table: u8, row: usize },
-    #[error("table {table} cannot be written: refused by {}", .refusal.number())]
+    #[error("table {table} cannot be written: refused by {}", u8::from(*.refusal))]
     RefusedTable { table: u8, refusal: Refusal },
     #[error(transparent)]
     Memory(#[from(alloc)] AllocError),

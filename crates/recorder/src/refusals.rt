@@ -5,7 +5,7 @@ use thiserror::Error;
 
 // The refusal of a load: its number, what it means, and the byte where the faulty record begins.
 #[derive(Clone, Copy, Debug, Error)]
-#[error("Refused by {}: {} (byte {}).", .0.refusal.number(), .0.refusal, .0.place)]
+#[error("Refused by {}: {} (byte {}).", u8::from(.0.refusal), .0.refusal, .0.place)]
 pub(crate) struct RefusedLoad(pub(crate) Fault);
 
 // The answer to an entry.
@@ -17,7 +17,7 @@ impl fmt::Display for Answer {
         match self.0 {
             Ok(()) => f.write_str("taken"),
             Err(fault) => {
-                let number = fault.refusal.number();
+                let number = u8::from(fault.refusal);
                 let block = fault.block;
                 write!(f, "declined by {number} in block {block}")
             }
