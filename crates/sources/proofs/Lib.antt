@@ -1,1 +1,2 @@
 pub mod HeadRows
+pub mod Finds

@@ -3,6 +3,7 @@ ghost use Rattle.std.specs.Prelude.{◌≡◌, ℕ, IfSome};
 ghost use Rattle.terms.specs.Tables.{Tables, WellFormed, row_at};
 ghost use Rattle.sources.specs.Answers.{shape_of, BoundedShape, fetch_answer, fetched_cells, metered};
 
+use crate::head::TableHead;
 use terms::{Cell, Fault, MAX_COLUMNS};
 
 // A table's columns and how many rows it has.
@@ -10,6 +11,17 @@ use terms::{Cell, Fault, MAX_COLUMNS};
 pub struct Shape {
     pub columns: u8,
     pub rows: usize,
+}
+
+impl From<TableHead> for Shape {
+    ghost from_gives = { λ head shape. shape ≡ record { columns = head.columns; rows = head.rows } };
+
+    fn from(head: TableHead) -> Shape {
+        Shape {
+            columns: head.columns,
+            rows: head.rows,
+        }
+    }
 }
 
 // Holds numbered tables and counts the rows that are read. Rows count from 0, columns from 1.

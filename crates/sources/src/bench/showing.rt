@@ -19,13 +19,8 @@ impl<'a> Source for Bench<'a> {
     ghost formed = { λ b. bench_formed b.heads.now b.cells.now b.taken b.ranged };
 
     fn shape(&self, table: u8) -> Option<Shape> {
-        let Some(head) = find_head(self.heads, table) else {
-            return None;
-        };
-        Some(Shape {
-            columns: head.columns,
-            rows: head.rows,
-        })
+        let head = find_head(self.heads, table)?;
+        Some(Shape::from(head))
     }
 
     fn fetch(
@@ -35,11 +30,10 @@ impl<'a> Source for Bench<'a> {
         place: &mut [Cell; MAX_COLUMNS],
     ) -> Result<(), Fault> {
         *place = [None; MAX_COLUMNS];
-        let Some(cells) = self.find_row(table, row) else {
-            return Err(Fault::of_row(Refusal::NoSuchRow, table, row));
-        };
+        let no_row = Fault::of_row(Refusal::NoSuchRow, table, row);
+        let cells = self.find_row(table, row).ok_or(no_row)?;
         self.meter = self.meter.wrapping_add(1);
-        place_row(cells, place);
+        *place = in_place(cells);
         Ok(())
     }
 
@@ -54,36 +48,28 @@ impl<'a> Bench<'a> {
         ensures row { option_map (λ cells. Some cells.now) result ≡ row_at (bench_tables self.now.heads.now self.now.cells.now table) row }
         ensures few { IfSome result (λ cells. length cells.now ≤ 6) }
     {
-        let Some(head) = find_head(self.heads, table) else {
-            return None;
-        };
+        let head = find_head(self.heads, table)?;
         if row >= head.rows {
             return None;
         }
         let columns = head.columns as usize;
         let start = head.first + row * columns;
-        let cells = self.cells;
-        Some(&cells[start..start + columns])
+        Some(&self.cells[start..start + columns])
     }
 }
 
 fn find_head(heads: &[TableHead], number: u8) -> Option<TableHead>
     ensures { result ≡ head_for heads.now number }
 {
-    for head in heads {
-        if head.number == number {
-            return Some(*head);
-        }
-    }
-    None
+    heads.iter().find(|head| head.number == number).copied()
 }
 
-// Puts a row's cells into a place that is all absent.
-fn place_row(row: &[Cell], place: &mut [Cell; MAX_COLUMNS])
-    requires few { length row.now ≤ 6 }
-    requires absent { place.old ≡ six_cells [] }
-    ensures { place.new ≡ six_cells row.now }
+// A row's cells, and absent ones after them.
+fn in_place(row: &[Cell]) -> [Cell; MAX_COLUMNS]
+    requires { length row.now ≤ 6 }
+    ensures { result ≡ six_cells row.now }
 {
-    let columns = row.len();
-    place[0..columns].copy_from_slice(row);
+    let mut cells = [None; MAX_COLUMNS];
+    cells[..row.len()].copy_from_slice(row);
+    cells
 }
