@@ -8,9 +8,7 @@ use terms::Cell;
 pub fn check_range(cells: &[Cell])
     ensures { every cell_in_range cells.now ≡ true }
 {
-    for cell in cells {
-        check_cell(*cell);
-    }
+    cells.iter().for_each(|cell| check_cell(*cell));
 }
 
 fn check_cell(cell: Cell)

@@ -1,11 +1,7 @@
-use Rattle.std.proofs.Common.{sym, ◌∙◌}
-use Rattle.std.proofs.lemmas.List.{at_drop_all}
+use Rattle.std.proofs.Common.{None, refl, rules}
+use Rattle.std.proofs.lemmas.List.Recursion.{and_from_places}
 use Rattle.terms.specs.Cells.{cell_in_range, every}
-use Rattle.terms.proofs.Loops.{every_more}
 use Rattle.sources.proofs.ranges.check_range.Goals as goal
 
-pub loop-cell-preserved : goal.loop-cell-preserved
-loop-cell-preserved c = every_more cell_in_range c.args.cells.now c.loop-cell.cell-index _ c.loop-cell-test.true c.check_cell.ensures ∙ c.loop-cell.invariant
-
 pub returns : goal.returns
-returns c = sym c.loop-cell.invariant ∙ at_drop_all (every cell_in_range) c.args.cells.now c.loop-cell.cell-index c.loop-cell-test.false
+returns c = and_from_places (every cell_in_range) cell_in_range refl (λ _ _. refl) c.args.cells.now None (λ i h. search rules)
