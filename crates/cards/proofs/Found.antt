@@ -1,5 +1,5 @@
 -- The search for a table through the records, and for a row in its bytes.
-use Rattle.std.proofs.Common.{◌≡◌, ℕ, zero, suc, ◌+◌, ◌-◌, ◌*◌, ◌/◌, ◌<◌, ◌≤◌, true, List, [], ◌∷◌, ◌++◌, length, get_or, take, drop, is_ok, Some, None, sym, refl, ap, ◌∙◌, ⊎_elim, suc-mul, div-add-mod', zero-mul, arith, length-drop, length-take, take-add}
+use Rattle.std.proofs.Common.{◌≡◌, ℕ, zero, suc, ◌+◌, ◌-◌, ◌*◌, ◌/◌, ◌<◌, ◌≤◌, true, List, [], ◌∷◌, ◌++◌, length, get_or, take, drop, is_ok, Some, None, Option, IfSome, sym, refl, ap, ◌∙◌, ⊎_elim, suc-mul, div-add-mod', zero-mul, arith, length-drop, length-take, take-add}
 use Rattle.std.proofs.lemmas.Nat.{mul-le}
 use Rattle.std.proofs.lemmas.List.{drop-drop}
 use Rattle.std.proofs.lemmas.Option.{slice_get_past}
@@ -9,33 +9,13 @@ use Rattle.std.specs.Option.{option_map}
 use Rattle.terms.specs.Tables.{row_at}
 use Rattle.terms.proofs.Loops.{numbered_in_front, numbered_behind}
 use Rattle.terms.proofs.Taken.{taken_at}
-use Rattle.cards.specs.Format.{row_width, row_of, rows_from}
+use Rattle.cards.specs.Format.{left, row_width, row_of, rows_from}
 use Rattle.cards.specs.Heads.{Headed}
-use Rattle.cards.specs.Verdicts.{row_count, records_verdict}
+use Rattle.cards.specs.Verdicts.{row_count, card_takes}
 use Rattle.cards.specs.CardTables.{RawTable, table_in_payload, table_in, tables_in, table_for, raw_table, shown, card_tables}
-use Rattle.cards.specs.CardFormed.{length_rows}
-use Rattle.cards.proofs.Records.{left, Turn, turn_left, past_end}
-
--- in records that all passed, a head promises no more than is left
-pub whole_record : (place size kind : ℕ) (bs tail : List ℕ) → Headed bs size kind tail → is_ok (records_verdict (left place bs)) ≡ true → size ≤ length tail
-whole_record place size kind bs tail k e =
-    ⊎_elim (λ l. absurd (true≢false (sym e ∙ ap is_ok (past_end place size kind bs tail k l)))) (λ l. l) (cases_lt (length tail) size)
-
-pub turn_passed : (place size kind : ℕ) (bs payload next : List ℕ) → Turn bs size kind payload next → is_ok (records_verdict (left place bs)) ≡ true → is_ok (records_verdict (left (place + (4 + size)) next)) ≡ true
-turn_passed place size kind bs payload next t e = (taken_at _ place _ (sym (ap (λ rs. is_ok (records_verdict rs)) (turn_left place size kind bs payload next t)) ∙ e)).1
-
--- the table is in the record at hand, or it is not
-pub table_here : (n place size kind : ℕ) (bs payload next whole : List ℕ) (f : RawTable) → Turn bs size kind payload next → whole ≡ take 4 bs ++ payload → Some f ≡ table_for (table_in whole kind payload) n → Some f ≡ table_for (tables_in (left place bs)) n
-table_here n place size kind bs payload next whole f t w e =
-    let here : List RawTable = table_in (take 4 bs ++ payload) kind payload in
-    sym (numbered_in_front (λ x. x.number) n here (tables_in (left (place + (4 + size)) next)) f (sym (e ∙ ap (λ x. table_for (table_in x kind payload) n) w)))
-    ∙ sym (ap (λ rs. table_for (tables_in rs) n) (turn_left place size kind bs payload next t))
-
-pub table_later : (n place size kind : ℕ) (bs payload next whole : List ℕ) → Turn bs size kind payload next → whole ≡ take 4 bs ++ payload → None ≡ table_for (table_in whole kind payload) n → table_for (tables_in (left (place + (4 + size)) next)) n ≡ table_for (tables_in (left place bs)) n
-table_later n place size kind bs payload next whole t w e =
-    let here : List RawTable = table_in (take 4 bs ++ payload) kind payload in
-    sym (numbered_behind (λ x. x.number) n here (tables_in (left (place + (4 + size)) next)) (sym (e ∙ ap (λ x. table_for (table_in x kind payload) n) w)))
-    ∙ sym (ap (λ rs. table_for (tables_in rs) n) (turn_left place size kind bs payload next t))
+use Rattle.cards.specs.CardFormed.{Sound, sound_table, length_rows}
+use Rattle.cards.specs.declared.format.TableBytes.{TableBytes}
+use Rattle.cards.specs.Views.{as_raw}
 
 -- the slice pattern's view of a table's payload
 pub table_in_is : (whole p : List ℕ) → 2 ≤ length p → table_in_payload whole p ≡ record { whole = whole; number = get_or p 0 0; columns = get_or p 1 0; bytes = drop 2 p } ∷ []
@@ -43,11 +23,10 @@ table_in_is whole [] h = absurd (omega arith)
 table_in_is whole (a ∷ []) h = absurd (omega arith)
 table_in_is whole (a ∷ (b ∷ p)) h = refl
 
--- the record at hand, as the code cuts it out
-pub whole_is : (bs : List ℕ) (size kind : ℕ) (tail payload : List ℕ) → Headed bs size kind tail → payload ≡ take size tail → take ((4 + size) - 0) bs ≡ take 4 bs ++ payload
-whole_is bs size kind tail payload k e =
-    let n : (4 + size) - 0 ≡ 4 + size = omega arith in
-    ap (λ m. take m bs) n ∙ take-add 4 size bs ∙ ap (λ l. take 4 bs ++ l) (sym (e ∙ ap (take size) k.rest))
+-- a table that was found is sound
+pub sound_found : (image : List ℕ) (n : ℕ) (o : Option TableBytes) → card_takes image ≡ true → option_map as_raw o ≡ raw_table image n → IfSome o (λ t. Sound n (as_raw t))
+sound_found image n None taken e = tt
+sound_found image n (Some t) taken e = sound_table image n (as_raw t) taken (sym e)
 
 -- Rows.
 

@@ -1,4 +1,6 @@
-pub mod Rows
-pub mod Records
+pub mod RowSteps
+pub mod RecordSteps
 pub mod Found
-pub mod Cells
+pub mod CellSteps
+pub mod Search
+pub mod Chunks

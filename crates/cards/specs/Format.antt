@@ -31,6 +31,10 @@ cut (suc fuel) place (l0 ∷ (l1 ∷ (k0 ∷ (k1 ∷ rest)))) =
 abbrev pub records : List ℕ → List CardRecord
 records image = cut (length image) 0 image
 
+-- what is left of an image from a place on, and the records in it
+abbrev pub left : ℕ → List ℕ → List CardRecord
+left place bytes = cut (length bytes) place bytes
+
 -- Rows. A row is a mark byte and four bytes for each column.
 
 abbrev pub row_width : ℕ → ℕ

@@ -1,8 +1,32 @@
-// The parts of an image: a record's head and payload, a table's rows.
+// The parts of an image: a record's head and kind, a table's rows.
 ghost use Rattle.std.specs.Prelude.{◌≡◌, ℕ, ◌<◌, length, MatchOption};
 ghost use Rattle.cards.specs.Format.{row_width};
 ghost use Rattle.cards.specs.Heads.{Headed};
 ghost use Rattle.cards.specs.Verdicts.{row_count};
+ghost use Rattle.cards.specs.Views.{kind_numbered};
+
+use terms::Refusal;
+
+// What a record may hold.
+#[derive(Clone, Copy, PartialEq, Eq, Debug)]
+pub(crate) enum RecordKind {
+    Table = 1,
+    Remark = 2,
+}
+
+impl TryFrom<u16> for RecordKind {
+    type Error = Refusal;
+
+    ghost try_from_gives = { λ number kind. kind ≡ kind_numbered number };
+
+    fn try_from(number: u16) -> Result<RecordKind, Refusal> {
+        match number {
+            1 => Ok(RecordKind::Table),
+            2 => Ok(RecordKind::Remark),
+            _ => Err(Refusal::UnknownKind),
+        }
+    }
+}
 
 // A record's head, taken off what is left of an image, and what follows it.
 #[derive(Clone, Copy)]
@@ -17,13 +41,6 @@ pub(crate) struct RecordHead<'a> {
 pub(crate) struct TableBytes<'a> {
     pub(crate) whole: &'a [u8],
     pub(crate) number: u8,
-    pub(crate) columns: u8,
-    pub(crate) bytes: &'a [u8],
-}
-
-// One row of a table in an image.
-#[derive(Clone, Copy)]
-pub(crate) struct RowBytes<'a> {
     pub(crate) columns: u8,
     pub(crate) bytes: &'a [u8],
 }

@@ -2,7 +2,10 @@
 #![tactic(auto)]
 
 mod card;
+mod cells;
 mod format;
+mod records;
+mod rows;
 
 pub use card::Card;
 pub use format::row_width;

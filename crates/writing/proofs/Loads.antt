@@ -12,7 +12,7 @@ use Rattle.terms.specs.Tables.{Filled}
 use Rattle.cards.specs.Format.{records, row_width, rows_right}
 use Rattle.cards.specs.Verdicts.{row_count, rows_verdict, table_verdict, records_verdict}
 use Rattle.cards.specs.CardTables.{RawTable, table_in, table_for, shown}
-use Rattle.cards.proofs.Records.{Turn, next_verdict, verdict_is}
+use Rattle.cards.proofs.RecordSteps.{Turn, next_verdict, verdict_is}
 use Rattle.cards.proofs.Found.{table_here}
 use Rattle.writing.specs.Records.{row_bytes, table_record}
 use Rattle.writing.specs.Laws.{Shows}

@@ -6,7 +6,7 @@ use Rattle.terms.specs.Cells.{Cell}
 use Rattle.sources.specs.Heads.{rows_in}
 use Rattle.cards.specs.Format.{row_width}
 use Rattle.writing.specs.Records.{put_all, cell_bytes, row_bytes}
-use Rattle.cards.proofs.Rows.{part_div}
+use Rattle.cards.proofs.RowSteps.{part_div}
 
 pub put_all-append : {X : Type 0} (place : List X) (i n : ℕ) (xs ys : List X) → n ≡ i + length xs → put_all (put_all place i xs) n ys ≡ put_all place i (xs ++ ys)
 put_all-append place i n [] ys e = ap (λ m. put_all place m ys) (omega (arith, e))

@@ -1,10 +1,13 @@
 // Loading an image onto a card.
-ghost use Rattle.std.specs.Prelude.{◌≡◌, ℕ, ◌*◌, ◌≤◌, true, false, [], length, is_ok, if◌then◌else◌};
-ghost use Rattle.cards.specs.Format.{cells_right, row_right, row_width};
-ghost use Rattle.cards.specs.Verdicts.{rows_verdict, table_verdict, payload_verdict, card_verdict};
+ghost use Rattle.std.specs.Prelude.{◌≡◌, ◌≤◌, [], length, is_ok, if◌then◌else◌};
+ghost use Rattle.cards.specs.Format.{row_width, row_right};
+ghost use Rattle.cards.specs.Verdicts.{rows_verdict, table_verdict, record_verdict, card_verdict};
+ghost use Rattle.cards.specs.Views.{as_record};
 
 use crate::card::Card;
-use crate::format::{record_head, row_width};
+use crate::format::{RecordKind, row_width};
+use crate::records::{Record, Records};
+use crate::rows::RowBytes;
 use sources::head_in_range;
 use terms::{Fault, MAX_ROWS, Refusal};
 
@@ -44,27 +47,24 @@ fn check_image(image: &[u8]) -> Result<(), Fault>
     if image.len() > MAX_IMAGE {
         return Err(Fault::at_place(Refusal::ImageTooLong, 0));
     }
-    let mut rest = image;
-    let mut at = 0;
-    while let Some(head) = record_head(rest) {
-        if head.size > head.tail.len() {
-            return Err(Fault::at_place(Refusal::RecordPastEnd, at));
-        }
-        let (payload, next) = head.tail.split_at(head.size);
-        Fault::placed(check_payload(head.kind, payload), at)?;
-        at += 4 + head.size;
-        rest = next;
+    for record in Records::of(image) {
+        Fault::placed(record.check(), record.place)?;
     }
     Ok(())
 }
 
-fn check_payload(kind: u16, payload: &[u8]) -> Result<(), Refusal>
-    ensures { result ≡ payload_verdict kind payload.now }
-{
-    match kind {
-        1 => check_table(payload),
-        2 => Ok(()),
-        _ => Err(Refusal::UnknownKind),
+impl Record<'_> {
+    // Whether an image may have this record.
+    fn check(self) -> Result<(), Refusal>
+        ensures { result ≡ record_verdict (as_record self.entry) }
+    {
+        if self.size > self.payload.len() {
+            return Err(Refusal::RecordPastEnd);
+        }
+        match RecordKind::try_from(self.kind)? {
+            RecordKind::Table => check_table(self.payload),
+            RecordKind::Remark => Ok(()),
+        }
     }
 }
 
@@ -88,41 +88,14 @@ fn check_rows(columns: u8, rows: &[u8]) -> Result<(), Refusal>
     if rows.len() % width != 0 || rows.len() / width > MAX_ROWS {
         return Err(Refusal::BadRowCount);
     }
-    let mut rest = rows;
-    while rest.len() > 0 {
-        let (row, next) = rest.split_at(width);
-        if !row_right(columns, row) {
-            return Err(Refusal::BadRow);
-        }
-        rest = next;
+    let right = |bytes: &[u8]| -> bool
+        requires few { columns ≤ 6 }
+        requires long { length bytes.now ≡ row_width columns }
+        ensures { result ≡ row_right columns bytes.now }
+    { RowBytes { columns, bytes }.is_right() };
+    if rows.chunks_exact(width).all(right) {
+        Ok(())
+    } else {
+        Err(Refusal::BadRow)
     }
-    Ok(())
-}
-
-fn row_right(columns: u8, row: &[u8]) -> bool
-    requires { length row.now ≡ row_width columns }
-    ensures { result ≡ row_right columns row.now }
-{
-    match row {
-        [mark, cells @ ..] => *mark >= 128 || cells_right(columns, *mark, cells),
-        [] => true,
-    }
-}
-
-// Whether the cells of a readable row are right under its mark.
-fn cells_right(columns: u8, mark: u8, bytes: &[u8]) -> bool
-    requires { length bytes.now ≡ 4 * columns }
-    ensures { result ≡ cells_right columns mark bytes.now }
-{
-    let mut left = mark;
-    let mut rest = bytes;
-    while let [b0, b1, b2, b3, tail @ ..] = rest {
-        let word = u32::from_le_bytes([*b0, *b1, *b2, *b3]);
-        if left % 2 != 0 && word != 0 {
-            return false;
-        }
-        left /= 2;
-        rest = tail;
-    }
-    left == 0
 }

@@ -5,7 +5,6 @@ ghost use Rattle.cards.specs.CardTables.{card_tables, raw_table};
 ghost use Rattle.cards.specs.CardFormed.{card_formed};
 
 use crate::card::Card;
-use crate::card::reading::{find_row, find_table, read_row};
 use sources::{Shape, Source};
 use terms::{Cell, Fault, MAX_COLUMNS, Refusal};
 
@@ -17,9 +16,7 @@ impl<'a> Source for Card<'a> {
     ghost formed = { λ c. card_formed c.image.now c.passed };
 
     fn shape(&self, table: u8) -> Option<Shape> {
-        let Some(found) = find_table(self.image, table) else {
-            return None;
-        };
+        let found = self.find_table(table)?;
         Some(Shape {
             columns: found.columns,
             rows: found.row_count(),
@@ -33,15 +30,12 @@ impl<'a> Source for Card<'a> {
         place: &mut [Cell; MAX_COLUMNS],
     ) -> Result<(), Fault> {
         *place = [None; MAX_COLUMNS];
-        let Some(found) = find_row(self.image, table, row) else {
-            return Err(Fault::of_row(Refusal::NoSuchRow, table, row));
-        };
+        let no_row = Fault::of_row(Refusal::NoSuchRow, table, row);
+        let found = self.find_row(table, row).ok_or(no_row)?;
         self.meter = self.meter.wrapping_add(1);
-        if read_row(found, place) {
-            Ok(())
-        } else {
-            Err(Fault::of_row(Refusal::RowUnreadable, table, row))
-        }
+        let unreadable = Fault::of_row(Refusal::RowUnreadable, table, row);
+        *place = found.read().ok_or(unreadable)?;
+        Ok(())
     }
 
     fn meter(&self) -> u64 {
@@ -54,9 +48,7 @@ impl<'a> Card<'a> {
     pub fn record_of(&self, table: u8) -> Option<&'a [u8]>
         ensures { option_map (λ bytes. bytes.now) result ≡ option_map (λ t. t.whole) (raw_table self.now.image.now table) }
     {
-        let Some(found) = find_table(self.image, table) else {
-            return None;
-        };
+        let found = self.find_table(table)?;
         Some(found.whole)
     }
 }

@@ -1,6 +1,6 @@
 use Rattle.std.proofs.Common.{◌≡◌, length, ap, ◌∙◌, arith, length-drop}
 use Rattle.cards.specs.Format.{row_width}
-use Rattle.cards.proofs.Rows.{part_fits, part_mod}
+use Rattle.cards.proofs.RowSteps.{part_fits, part_mod}
 use Rattle.writing.proofs.Puts.{rows_put, rows_room, length-put_all}
 use Rattle.writing.proofs.record.write_rows.Goals as goal
 
