@@ -1,9 +1,9 @@
 -- The image of one written table.
-use Rattle.std.proofs.Common.{◌≡◌, ℕ, ◌+◌, ◌*◌, ◌/◌, ◌%◌, ◌≤◌, true, eqb, leb, List, [], ◌∷◌, map, length, is_ok, Some, Ok, sym, refl, ap, ◌∙◌, mul-div_cancel, arith}
+use Rattle.std.proofs.Common.{◌≡◌, ℕ, ◌+◌, ◌*◌, ◌/◌, ◌%◌, ◌≤◌, true, false, eqb, leb, ltb, List, [], ◌∷◌, map, length, is_ok, Some, Ok, sym, refl, ap, ◌∙◌, mul-div_cancel, arith}
 use native.Mathlib.Nat.{mul-mod_left}
 use Rattle.std.proofs.lemmas.Nat.{mul-le}
 use Rattle.std.proofs.lemmas.List.{take_all, drop_all}
-use Rattle.std.proofs.lemmas.Bool.{eq-eqb, le-leb}
+use Rattle.std.proofs.lemmas.Bool.{eq-eqb, le-leb, le-ltb}
 use Rattle.std.specs.List.{flat_map, AllByRecursion}
 use Rattle.std.specs.Option.{option_map}
 use Rattle.terms.specs.Cells.{Row}
@@ -11,9 +11,9 @@ use Rattle.terms.specs.Faults.{refused_at}
 use Rattle.terms.specs.Tables.{Filled}
 use Rattle.cards.specs.Format.{records, row_width, rows_right}
 use Rattle.cards.specs.Verdicts.{row_count, rows_verdict, table_verdict, records_verdict}
-use Rattle.cards.specs.CardTables.{RawTable, table_in, table_for, shown}
-use Rattle.cards.proofs.RecordSteps.{Turn, next_verdict, verdict_is}
-use Rattle.cards.proofs.Found.{table_here}
+use Rattle.cards.specs.CardTables.{RawTable, tables_in, table_for, shown}
+use Rattle.cards.specs.Heads.{size_at}
+use Rattle.cards.proofs.RecordSteps.{left_next, verdict_is}
 use Rattle.writing.specs.Records.{row_bytes, table_record}
 use Rattle.writing.specs.Laws.{Shows}
 use Rattle.writing.proofs.Back.{length_rows, rows_back}
@@ -52,28 +52,30 @@ module _ (number columns : ℕ) (rows : List Row) (t : Writable number columns r
       let d : leb columns 6 ≡ true = le-leb _ _ t.few_columns in
       rw (a, b, c, d) rows_taken
 
-  one_turn : Turn (table_record number columns rows) (2 + length (flat_map row_bytes rows)) 1 (number ∷ (columns ∷ flat_map row_bytes rows)) []
-  one_turn = record {
-    long = omega arith;
-    sized = omega (arith, small);
-    kinded = refl;
-    fits = omega arith;
-    front = sym (take_all (2 + length (flat_map row_bytes rows)) (number ∷ (columns ∷ flat_map row_bytes rows)) (omega arith));
-    back = sym (drop_all (2 + length (flat_map row_bytes rows)) (number ∷ (columns ∷ flat_map row_bytes rows)) (omega arith));
-  }
+  abbrev payload : List ℕ
+  payload = number ∷ (columns ∷ flat_map row_bytes rows)
+
+  -- the image has that one record
+  the_record : records (table_record number columns rows) ≡ record { place = 0; bytes = table_record number columns rows; size = length payload; kind = 1; payload = payload } ∷ []
+  the_record =
+      let size : size_at (table_record number columns rows) ≡ length payload = omega (arith, small) in
+      left_next 0 (table_record number columns rows) (omega arith)
+      ∙ rw (size, take_all (length payload) payload (omega arith), drop_all (length payload) payload (omega arith)) refl
 
   records_taken : records_verdict (records (table_record number columns rows)) ≡ Ok tt
-  records_taken = next_verdict 0 _ _ _ _ _ one_turn ∙ ap (λ v. refused_at v 0 (Ok tt)) table_taken
+  records_taken =
+      let whole : ltb (length payload) (length payload) ≡ false = le-ltb _ _ (omega arith) in
+      ap records_verdict the_record ∙ rw whole (ap (λ v. refused_at v 0 (Ok tt)) table_taken)
 
   -- the record of a table, loaded, shows that table
   pub loads_back : Shows (table_record number columns rows) number (record { columns = columns; rows = map Some rows })
   loads_back =
       let found : RawTable = record { whole = table_record number columns rows; number = number; columns = columns; bytes = flat_map row_bytes rows } in
       let e : eqb number number ≡ true = eq-eqb number number refl in
-      let is : Some found ≡ table_for (table_in (table_record number columns rows) 1 (number ∷ (columns ∷ flat_map row_bytes rows))) number = rw e in
+      let is : table_for (tables_in (records (table_record number columns rows))) number ≡ Some found = ap (λ rs. table_for (tables_in rs) number) the_record ∙ rw e in
       let same : shown found ≡ record { columns = columns; rows = map Some rows } =
       ap (λ rs. record { columns = columns; rows = rs }) (rw count (rows_back columns rows t.few_columns t.each_row).0) in
       record {
         taken = ap is_ok (sym (verdict_is (table_record number columns rows) (omega (arith, small))) ∙ records_taken);
-        shown = ap (option_map shown) (sym (table_here number 0 _ _ _ _ _ _ found one_turn refl is)) ∙ ap Some same;
+        shown = ap (option_map shown) is ∙ ap Some same;
       }
