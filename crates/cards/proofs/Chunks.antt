@@ -15,10 +15,10 @@ use Rattle.cards.specs.Verdicts.{row_count, rows_verdict}
 use Rattle.cards.proofs.RowSteps.{part_div}
 
 -- the chunks that are left
-abbrev pub chunks_left : ChunksExact ℕ → List (List ℕ)
+abbrev pub chunks_left : {X : Type 0} → ChunksExact X → List (List X)
 chunks_left s = first_chunks (chunks_exact_size s) (length (chunks_exact_rest s) / chunks_exact_size s) (chunks_exact_rest s)
 
-chunk_next : (w : ℕ) (xs x ys : List ℕ) → 0 < w → xs ≡ x ++ ys → length x ≡ w → first_chunks w (length xs / w) xs ≡ x ∷ first_chunks w (length ys / w) ys
+chunk_next : {X : Type 0} (w : ℕ) (xs x ys : List X) → 0 < w → xs ≡ x ++ ys → length x ≡ w → first_chunks w (length xs / w) xs ≡ x ∷ first_chunks w (length ys / w) ys
 chunk_next w xs x ys p e l =
     let long : length xs ≡ w + length ys = ap length e ∙ length-append x ys ∙ ap (λ m. m + length ys) l in
     let front : take w xs ≡ x = ap (take w) e ∙ take_at x ys w l in
@@ -26,7 +26,7 @@ chunk_next w xs x ys p e l =
     let fewer : length xs - w ≡ length ys = omega arith in
     ap (λ m. first_chunks w m xs) (part_div w (length xs) p (omega arith)) ∙ rw (front, back, fewer) refl
 
-pub yields_chunks : (s : ChunksExact ℕ) → 0 < chunks_exact_size s → YieldsList chunks_exact_steps (λ x. x.now) s (chunks_left s)
+pub yields_chunks : {X : Type 0} (s : ChunksExact X) → 0 < chunks_exact_size s → YieldsList chunks_exact_steps (λ x. x.now) s (chunks_left s)
 yields_chunks s p =
     YieldsList-from_shown_while chunks_exact_steps (λ x. x.now) chunks_left (λ s. 0 < chunks_exact_size s)
     (λ s t p h. let none : length (chunks_exact_rest s) / chunks_exact_size s ≡ 0 = div-eq_of_lt h.1.0 in rw none refl)

@@ -12,6 +12,9 @@ mark_below [] k h = pow_pos k
 mark_below (c ∷ cs) zero h = absurd (omega arith)
 mark_below (c ∷ cs) (suc k) h = omega (arith, pow-suc 2 k, mark_below cs k (omega arith), bit_le c)
 
+pub mark_small : (cs : List Cell) → length cs ≤ 5 → mark_of cs < 32
+mark_small cs h = mark_below cs 5 h
+
 -- one cell off a row
 pub mark_next : (cs : List Cell) (d : Cell) → 1 ≤ length cs → mark_of cs ≡ mark_bit (get_or cs 0 d) + 2 * mark_of (drop 1 cs)
 mark_next [] d h = absurd (omega arith)

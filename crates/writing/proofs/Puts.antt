@@ -1,43 +1,26 @@
 -- Bytes that are written one part after another.
-use Rattle.std.proofs.Common.{◌≡◌, ℕ, ◌+◌, ◌-◌, ◌*◌, ◌/◌, ◌<◌, ◌≤◌, List, [], ◌∷◌, ◌++◌, length, get_or, take, drop, set, Some, None, sym, refl, ap, ◌∙◌, suc-mul, arith, length-drop, length-set}
-use Rattle.std.proofs.lemmas.List.{append_assoc, drop_more, drop_all, length-append, length_push, length-take-le, set_at}
-use Rattle.std.specs.List.{flat_map}
-use Rattle.terms.specs.Cells.{Cell}
+use Rattle.std.proofs.Common.{◌≡◌, ℕ, zero, suc, ◌+◌, ◌-◌, ◌*◌, ◌/◌, ◌<◌, ◌≤◌, List, [], ◌∷◌, ◌++◌, length, get_or, take, drop, Some, None, sym, refl, ap, ◌∙◌, suc-mul, arith}
+use Rattle.std.proofs.lemmas.List.{length-append, take_more, flat_map_more, get_or_default}
+use Rattle.std.proofs.lemmas.List.FromFn.{get_or-enumerate_from, length-enumerate_from}
+use Rattle.std.proofs.lemmas.Slice.{take-put_mid}
+use Rattle.std.specs.List.{flat_map, enumerate_from}
+use Rattle.std.specs.Simd.{first_chunks}
+use Rattle.std.proofs.lemmas.Iterator.{YieldsList}
+use Rattle.std.proofs.lemmas.Iterator.Consumers.{YieldsList-at, YieldsList-from_enumerate}
+use Rattle.std.specs.Iterator.Adapters.{enumerate_source, enumerate_count, enumerate_steps}
+use Rattle.std.specs.Slice.Iter.{chunks_exact_rest, chunks_exact_size, chunks_exact_steps}
+use Rattle.std.specs.declared.slice.ChunksExact.{ChunksExact}
+use Rattle.std.specs.declared.iter.Enumerate.{Enumerate}
+use Rattle.cards.proofs.Chunks.{chunks_left, yields_chunks}
+use borrow.Rule.Slice.PartMut.{put_mid}
+use Rattle.terms.specs.Cells.{Cell, Row}
 use Rattle.sources.specs.Heads.{rows_in}
 use Rattle.cards.specs.Format.{row_width}
-use Rattle.writing.specs.Records.{put_all, cell_bytes, row_bytes}
-use Rattle.cards.proofs.RowSteps.{part_div}
-
-pub put_all-append : {X : Type 0} (place : List X) (i n : ℕ) (xs ys : List X) → n ≡ i + length xs → put_all (put_all place i xs) n ys ≡ put_all place i (xs ++ ys)
-put_all-append place i n [] ys e = ap (λ m. put_all place m ys) (omega (arith, e))
-put_all-append place i n (x ∷ xs) ys e = put_all-append (set place i x) (i + 1) n xs ys (omega (arith, e))
-
--- over a list from its start, or behind what is done
-pub put_all_is : {X : Type 0} (n : ℕ) (done tail xs : List X) → length done ≡ n → length xs ≤ length tail → put_all (done ++ tail) n xs ≡ done ++ (xs ++ drop (length xs) tail)
-put_all_is n done tail [] e h = refl
-put_all_is n done [] (x ∷ xs) e h = absurd (omega arith)
-put_all_is n done (y ∷ tail) (x ∷ xs) e h =
-    ap (λ p. put_all p (n + 1) xs) (set_at done y tail x n e ∙ sym (append_assoc done (x ∷ []) tail))
-    ∙ put_all_is (n + 1) (done ++ (x ∷ [])) tail xs (length_push done x ∙ ap (λ m. m + 1) e) (omega arith)
-    ∙ append_assoc done (x ∷ []) (xs ++ drop (length xs) tail)
-
-pub length-put_all : {X : Type 0} (place : List X) (i : ℕ) (xs : List X) → length (put_all place i xs) ≡ length place
-length-put_all place i [] = refl
-length-put_all place i (x ∷ xs) = length-put_all (set place i x) (i + 1) xs ∙ length-set place i x
+use Rattle.writing.specs.Records.{cell_bytes, row_bytes}
 
 pub length-cell : (c : Cell) → length (cell_bytes c) ≡ 4
 length-cell None = refl
 length-cell (Some z) = refl
-
--- a part more, and then the rest, of a list of parts
-pub parts_next : {X : Type 0} (f : X → List ℕ) (out next : List ℕ) (pos after idx : ℕ) (xs : List X) (d : X) → idx < length xs → next ≡ put_all out pos (f (get_or xs idx d)) → after ≡ pos + length (f (get_or xs idx d)) → put_all next after (flat_map f (drop (idx + 1) xs)) ≡ put_all out pos (flat_map f (drop idx xs))
-parts_next f out next pos after idx xs d h e a =
-    rw e (put_all-append out pos after (f (get_or xs idx d)) _ a ∙ ap (λ l. put_all out pos (flat_map f l)) (sym (drop_more xs idx d h)))
-
-pub parts_end : {X : Type 0} (f : X → List ℕ) (out : List ℕ) (pos idx : ℕ) (xs : List X) → length xs ≤ idx → out ≡ put_all out pos (flat_map f (drop idx xs))
-parts_end f out pos idx xs h = ap (λ l. put_all out pos (flat_map f l)) (sym (drop_all idx xs h))
-
--- Rows.
 
 pub length_cells : (cs : List Cell) → length (flat_map cell_bytes cs) ≡ 4 * length cs
 length_cells [] = refl
@@ -46,18 +29,31 @@ length_cells (c ∷ cs) = length-append (cell_bytes c) (flat_map cell_bytes cs) 
 pub length_row : (cs : List Cell) → length (row_bytes cs) ≡ row_width (length cs)
 length_row cs = omega (arith, length_cells cs)
 
-pub rows_in_next : (columns : ℕ) (xs : List Cell) → 0 < columns → columns ≤ length xs → rows_in (length xs / columns) columns xs ≡ take columns xs ∷ rows_in (length (drop columns xs) / columns) columns (drop columns xs)
-rows_in_next columns xs p h =
-    ap (λ n. rows_in n columns xs) (part_div columns (length xs) p h)
-    ∙ ap (λ m. take columns xs ∷ rows_in (m / columns) columns (drop columns xs)) (sym (length-drop columns xs))
+-- The loop over the rows of a list of cells.
 
--- one turn of the loop that writes the rows
-pub rows_put : (out after : List ℕ) (pos columns w : ℕ) (rest row next : List Cell) → 0 < columns → columns ≤ length rest → w ≡ row_width columns → row ≡ take columns rest → next ≡ drop columns rest → after ≡ put_all out pos (row_bytes row) → put_all after (pos + w) (flat_map row_bytes (rows_in (length next / columns) columns next)) ≡ put_all out pos (flat_map row_bytes (rows_in (length rest / columns) columns rest))
-rows_put out after pos columns w rest row next p h ew er en ea =
-    let long : length (row_bytes row) ≡ w = length_row row ∙ ap row_width (ap length er ∙ length-take-le columns rest h) ∙ sym ew in
-    let later : List ℕ = flat_map row_bytes (rows_in (length next / columns) columns next) in
-    let same : row_bytes row ++ later ≡ flat_map row_bytes (rows_in (length rest / columns) columns rest) = rw (er, en) (sym (ap (flat_map row_bytes) (rows_in_next columns rest p h))) in
-    rw ea (put_all-append out pos (pos + w) (row_bytes row) later (ap (λ n. pos + n) (sym long)) ∙ ap (put_all out pos) same)
+chunks_rows : (n columns : ℕ) (cells : List Cell) → first_chunks columns n cells ≡ rows_in n columns cells
+chunks_rows zero columns cells = refl
+chunks_rows (suc n) columns cells = ap (λ rows. take columns cells ∷ rows) (chunks_rows n columns (drop columns cells))
 
-pub rows_room : (columns w n m : ℕ) → 0 < columns → columns ≤ n → m ≡ n - columns → w + m / columns * w ≡ n / columns * w
-rows_room columns w n m p h e = rw (e, part_div columns n p h) (omega (arith, suc-mul ((n - columns) / columns) w))
+-- the rows come one by one, each with its number
+pub rows_road : (columns : ℕ) (cells : List Cell) (s : ChunksExact Cell) (e : Enumerate (ChunksExact Cell)) → 1 ≤ columns → chunks_exact_size s ≡ columns → chunks_exact_rest s ≡ cells → enumerate_source e ≡ s → enumerate_count e ≡ 0 → YieldsList (enumerate_steps chunks_exact_steps) (λ p. (p.0, p.1.now)) e (enumerate_from 0 (rows_in (length cells / columns) columns cells))
+rows_road columns cells s e h size rest source count =
+    let same : chunks_left s ≡ rows_in (length cells / columns) columns cells = rw (size, rest) (chunks_rows (length cells / columns) columns cells) in
+    rw (sym same) (YieldsList-from_enumerate (YieldsList-at source (yields_chunks s (rw size h))) count)
+
+-- the row at hand, by its number
+pub row_at_hand : (rows : List Row) (k i : ℕ) (row : Row) → k < length (enumerate_from 0 rows) → ◌≡◌ {A = ℕ × Row} (i, row) (get_or (enumerate_from 0 rows) k (i, row)) → (k < length rows) × (i ≡ k) × (row ≡ get_or rows k [])
+row_at_hand rows k i row h e =
+    let below : k < length rows = rw length-enumerate_from at h in
+    let pair = e ∙ get_or-enumerate_from 0 rows k (i, row) below in
+    (below, ap (λ (p : ℕ × Row). p.0) pair ∙ omega arith, ap (λ (p : ℕ × Row). p.1) pair ∙ get_or_default rows k row [] below)
+
+-- one row more
+pub rows_put : (rows : List Row) (out new : List ℕ) (k i w m : ℕ) → k < length rows → i ≡ k → i * w ≤ length out → length new ≡ w → new ≡ row_bytes (get_or rows k []) → m ≡ k + 1 → take (k * w) out ≡ flat_map row_bytes (take k rows) → take (m * w) (put_mid (i * w) ((i + 1) * w - i * w) out new) ≡ flat_map row_bytes (take m rows)
+rows_put rows out new k i w m h ei room long en em done =
+    rw (em, ei)
+    (take-put_mid (k * w) ((k + 1) * w - k * w) out new ((k + 1) * w) (omega (arith, suc-mul k w)) (rw (sym ei) room)
+    ∙ ap (λ l. l ++ new) done
+    ∙ ap (λ l. flat_map row_bytes (take k rows) ++ l) en
+    ∙ flat_map_more row_bytes [] (take k rows) (get_or rows k [])
+    ∙ ap (flat_map row_bytes) (sym (take_more rows k [] h)))

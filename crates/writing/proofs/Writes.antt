@@ -1,7 +1,8 @@
 -- The record that a head is written as.
 use Rattle.std.proofs.Common.{◌≡◌, ℕ, zero, suc, ◌+◌, ◌-◌, ◌*◌, ◌/◌, ◌%◌, ◌≤◌, true, leb, List, [], ◌++◌, length, take, drop, is_ok, Ok, sym, refl, ap, ◌∙◌, subst, suc-mul, zero-mul, mul-div_cancel, arith, length-drop, length-take}
 use native.Mathlib.Nat.{mul-mod_left}
-use Rattle.std.proofs.lemmas.List.{length-append, take_at, take-take, drop-take}
+use Rattle.std.proofs.lemmas.List.{length-append, take_at, take-take, drop-take, drop-drop}
+use borrow.Rule.Slice.PartMut.{put_mid}
 use Rattle.std.proofs.lemmas.Bool.{leb-true}
 use Rattle.std.proofs.lemmas.Nat.{mul-le}
 use Rattle.std.specs.List.{flat_map, AllByRecursion}
@@ -14,10 +15,10 @@ use Rattle.sources.specs.declared.head.TableHead.{TableHead}
 use Rattle.sources.specs.Heads.{head_verdict, rows_in, head_rows, head_table}
 use Rattle.sources.specs.BenchFormed.{Sound, sound_head, rows_filled, length_rows as length-rows-in}
 use Rattle.cards.specs.Format.{row_width}
-use Rattle.writing.specs.Records.{put_all, head_bytes, row_bytes, head_record, record_length, write_verdict}
+use Rattle.writing.specs.Records.{head_bytes, row_bytes, head_record, record_length, write_verdict}
 use Rattle.writing.specs.Laws.{Shows}
 use Rattle.writing.proofs.Loads.{Writable, loads_back}
-use Rattle.writing.proofs.Puts.{length_row, put_all-append, put_all_is}
+use Rattle.writing.proofs.Puts.{length_row}
 
 -- what a head that is not refused shows
 pub record Taken (h : TableHead) (len room : ℕ) : Type 0 where
@@ -79,13 +80,17 @@ module _ (h : TableHead) (cs : List Cell) (room : ℕ) (t : Taken h (length cs) 
   pub record_size : length (head_record cs h) ≡ record_length h
   record_size = omega (arith, rows_size)
 
-  pub record_written : (out made done : List ℕ) → room ≡ length out → made ≡ put_all out 0 (head_bytes (2 + h.rows * row_width h.columns) h.number h.columns) → done ≡ put_all made 6 (flat_map row_bytes (head_rows cs h)) → done ≡ head_record cs h ++ drop (length (head_record cs h)) out
-  record_written out made done er em ed =
-      let head = head_bytes (2 + h.rows * row_width h.columns) h.number h.columns in
-      let rows = flat_map row_bytes (head_rows cs h) in
-      let whole : head ++ rows ≡ head_record cs h = ap (λ n. head_bytes (2 + n) h.number h.columns ++ rows) (sym rows_size) in
-      let put : put_all (put_all out 0 head) 6 rows ≡ put_all out 0 (head ++ rows) = put_all-append out 0 6 head rows refl in
-      ed ∙ ap (λ o. put_all o 6 rows) em ∙ put ∙ ap (put_all out 0) whole ∙ put_all_is 0 [] out (head_record cs h) refl (omega (arith, record_size, t.fits, er))
+  -- the room for the rows, behind a head of six bytes
+  pub rows_room : (out head : List ℕ) (end : ℕ) → length head ≡ 6 → room ≡ length out → end ≡ record_length h → length (take (end - 6) (drop 6 (head ++ drop 6 out))) ≡ h.rows * row_width h.columns
+  rows_room out head end six er ee = simp (length-take, length-append, length-drop) (omega (arith, t.fits, er))
+
+  -- the record in the buffer: its head in front, then its rows, then what was there
+  pub record_written : (out head rows : List ℕ) (k : ℕ) → head ≡ head_bytes (2 + h.rows * row_width h.columns) h.number h.columns → rows ≡ flat_map row_bytes (head_rows cs h) → k ≡ h.rows * row_width h.columns → put_mid 6 k (head ++ drop 6 out) rows ≡ head_record cs h ++ drop (length (head_record cs h)) out
+  record_written out head rows k eh er ek =
+      let size : h.rows * row_width h.columns ≡ length (flat_map row_bytes (head_rows cs h)) = sym rows_size in
+      let whole : 6 + k ≡ length (head_record cs h) = omega (arith, record_size, ek) in
+      let rest : drop k (drop 6 out) ≡ drop (length (head_record cs h)) out = drop-drop k 6 out ∙ ap (λ m. drop m out) whole in
+      rw (eh, er, rest, size) refl
 
   -- the table may be written
   pub writable : every cell_in_range (handed h cs) ≡ true → Writable h.number h.columns (head_rows cs h)

@@ -1,5 +1,5 @@
 -- A table as it is written: one record.
-use Rattle.std.specs.Prelude.{ℕ, ◌+◌, ◌*◌, ◌/◌, ◌%◌, cond, List, [], ◌∷◌, ◌++◌, length, Some, None, Ok, Err, Result, nat_le, slice_set}
+use Rattle.std.specs.Prelude.{ℕ, ◌+◌, ◌*◌, ◌/◌, ◌%◌, cond, List, [], ◌∷◌, ◌++◌, length, Some, None, Ok, Err, Result, nat_le}
 use Rattle.std.specs.Int.{w32}
 use Rattle.std.proofs.Common.{of_z}
 use Rattle.std.specs.List.{flat_map}
@@ -57,8 +57,3 @@ written (Err fault) n = Err fault
 
 abbrev pub write_answer : TableHead → List Cell → (room : ℕ) → Result ℕ Fault
 write_answer h cells room = written (write_verdict h (length cells) room) (length (head_record cells h))
-
--- a list with the items of `xs` written over its own, from the index i on
-abbrev pub put_all : {X : Type 0} → List X → ℕ → List X → List X
-put_all place i [] = place
-put_all place i (x ∷ xs) = put_all (slice_set place i x) (i + 1) xs

@@ -4,7 +4,7 @@ ghost use Rattle.std.specs.List.{flat_map};
 ghost use Rattle.sources.specs.Heads.{rows_in, head_table};
 ghost use Rattle.cards.specs.Format.{row_width};
 ghost use Rattle.writing.specs.Laws.{Shows};
-ghost use Rattle.writing.specs.Records.{cell_bytes, mark_of, row_bytes, head_bytes, head_record, write_verdict, write_answer, put_all};
+ghost use Rattle.writing.specs.Records.{cell_bytes, mark_of, row_bytes, head_bytes, head_record, write_verdict, write_answer};
 
 use cards::row_width;
 use sources::{TableHead, check_range};
@@ -21,10 +21,11 @@ pub fn write_table(head: TableHead, cells: &[Cell], out: &mut [u8]) -> Result<us
     check_write(head, cells.len(), out.len())?;
     let first = head.first;
     let end = first + head.rows * head.columns as usize;
-    check_range(&cells[first..end]);
+    let rows = &cells[first..end];
+    check_range(rows);
     let size = 2 + head.rows * row_width(head.columns);
-    write_head(size, head.number, head.columns, out);
-    write_rows(head.columns, &cells[first..end], out, 6);
+    out[..6].copy_from_slice(&head_bytes(size, head.number, head.columns));
+    write_rows(head.columns, rows, &mut out[6..4 + size]);
     Ok(4 + size)
 }
 
@@ -38,74 +39,56 @@ fn check_write(head: TableHead, cells: usize, room: usize) -> Result<(), Fault>
     Ok(())
 }
 
-// A record's head and its table's, in the first six bytes.
-fn write_head(size: usize, number: u8, columns: u8, out: &mut [u8])
-    requires small { size < 65536 }
-    requires room { 6 ≤ length out.old }
-    ensures { out.new ≡ put_all out.old 0 (head_bytes size number columns) }
+// A record's head and its table's.
+fn head_bytes(size: usize, number: u8, columns: u8) -> [u8; 6]
+    requires { size < 65536 }
+    ensures { result ≡ head_bytes size number columns }
 {
     let [l0, l1] = (size as u16).to_le_bytes();
-    out[0] = l0;
-    out[1] = l1;
-    out[2] = 1;
-    out[3] = 0;
-    out[4] = number;
-    out[5] = columns;
+    [l0, l1, 1, 0, number, columns]
 }
 
-// The rows that `cells` is made of, one after another.
-fn write_rows(columns: u8, cells: &[Cell], out: &mut [u8], at: usize)
+// Fills `out` with the rows that `cells` is made of, one after another.
+fn write_rows(columns: u8, cells: &[Cell], out: &mut [u8])
     requires low { 1 ≤ columns }
     requires high { columns ≤ 6 }
     requires whole { length cells.now % columns ≡ 0 }
-    requires room { at + length cells.now / columns * row_width columns ≤ length out.old }
-    ensures { out.new ≡ put_all out.old at (flat_map row_bytes (rows_in (length cells.now / columns) columns cells.now)) }
+    requires room { length out.old ≡ length cells.now / columns * row_width columns }
+    ensures { out.new ≡ flat_map row_bytes (rows_in (length cells.now / columns) columns cells.now) }
 {
-    let mut rest = cells;
-    let mut pos = at;
-    while rest.len() > 0 {
-        let (row, next) = rest.split_at(columns as usize);
-        write_row(row, out, pos);
-        pos += row_width(columns);
-        rest = next;
+    let width = row_width(columns);
+    for (i, row) in cells.chunks_exact(columns as usize).enumerate() {
+        write_row(row, &mut out[i * width..(i + 1) * width]);
     }
 }
 
-fn write_row(cells: &[Cell], out: &mut [u8], at: usize)
+// Fills `out` with one row.
+fn write_row(cells: &[Cell], out: &mut [u8])
     requires few { length cells.now ≤ 6 }
-    requires room { at + row_width (length cells.now) ≤ length out.old }
-    ensures { out.new ≡ put_all out.old at (row_bytes cells.now) }
+    requires room { length out.old ≡ row_width (length cells.now) }
+    ensures { out.new ≡ row_bytes cells.now }
 {
-    out[at] = mark_of(cells);
-    let mut pos = at + 1;
-    for cell in cells {
-        write_cell(*cell, out, pos);
-        pos += 4;
+    out[0] = mark_of(cells);
+    for (i, cell) in cells.iter().enumerate() {
+        let at = 1 + 4 * i;
+        out[at..at + 4].copy_from_slice(&cell_bytes(*cell));
     }
 }
 
 // The mark byte of a row: a bit for each absent cell.
+#[tactic(auto, using(crate::proofs::Marks::mark_small, std::proofs::lemmas::Grind::common_steps))]
 fn mark_of(cells: &[Cell]) -> u8
     requires { length cells.now ≤ 6 }
     ensures { result ≡ mark_of cells.now }
 {
     match cells {
         [] => 0,
-        [Some(_), rest @ ..] => 2 * mark_of(rest),
-        [None, rest @ ..] => 1 + 2 * mark_of(rest),
+        [cell, rest @ ..] => u8::from(cell.is_none()) + 2 * mark_of(rest),
     }
 }
 
-fn write_cell(cell: Cell, out: &mut [u8], at: usize)
-    requires { at + 4 ≤ length out.old }
-    ensures { out.new ≡ put_all out.old at (cell_bytes cell) }
+fn cell_bytes(cell: Cell) -> [u8; 4]
+    ensures { result ≡ cell_bytes cell }
 {
-    let bytes = match cell {
-        Some(number) => number.to_le_bytes(),
-        None => [0; 4],
-    };
-    out[at] = bytes[0];
-    out[at + 1] = bytes[1];
-    out[at + 2] = bytes[2];
-    out[at + 3] = bytes[3];
+    cell.map_or([0; 4], i32::to_le_bytes)
 }

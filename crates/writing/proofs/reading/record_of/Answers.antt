@@ -5,9 +5,11 @@ pub returns : goal.returns
 returns c =
     let card = c.args.card.now in
     record {
-      found = c.in-Some.ensures;
-      once = found_once card.image.now c.args.table c.in-Some.bytes.now card.passed c.in-Some.ensures c.check_bytes.ensures;
+      found = c.in_ok-bytes.ensures;
+      once = found_once card.image.now c.args.table c.in_ok-bytes.bytes.now card.passed c.in_ok-bytes.ensures c.check_bytes.ensures;
     }
 
-pub returns-in_default : goal.returns-in_default
-returns-in_default c = record { found = c.in_default.ensures; once = none_once c.args.card.now.image.now c.args.table c.in_default.ensures }
+pub returns-in_err-bytes : goal.returns-in_err-bytes
+returns-in_err-bytes c =
+    rw c.from_residual.ensures
+    (record { found = c.in_err-bytes.ensures; once = none_once c.args.card.now.image.now c.args.table c.in_err-bytes.ensures })

@@ -1,7 +1,7 @@
-use Rattle.std.proofs.Common.{◌≡◌, ◌+◌, ◌*◌, drop}
+use Rattle.std.proofs.Common.{◌≡◌, ◌+◌, ◌*◌, ◌∷◌, take}
 use Rattle.std.specs.List.{flat_map}
-use Rattle.writing.specs.Records.{put_all, cell_bytes}
+use Rattle.writing.specs.Records.{mark_of, cell_bytes}
 use Rattle.writing.proofs.record.write_row.Given as goal
 
-abbrev pub invariant-loop-cell : goal.invariant-loop-cell
-invariant-loop-cell l = (l.pos ≡ l.at + 1 + 4 * l.cell-index) × (put_all l.out l.pos (flat_map cell_bytes (drop l.cell-index l.cells)) ≡ put_all l.initial.out (l.at + 1) (flat_map cell_bytes l.cells))
+abbrev pub invariant-loop-i : goal.invariant-loop-i
+invariant-loop-i l = take (1 + 4 * l.i) l.out ≡ mark_of l.cells ∷ flat_map cell_bytes (take l.i l.cells)
