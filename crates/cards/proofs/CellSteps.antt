@@ -1,8 +1,9 @@
 -- The cells of a row, four bytes each, one after another.
-use Rattle.std.proofs.Common.{◌≡◌, ℕ, zero, suc, ◌+◌, ◌-◌, ◌*◌, ◌/◌, ◌%◌, ◌^◌, ◌<◌, ◌≤◌, ◌&&◌, ◌||◌, true, false, eqb, ◌⊎◌, inl, inr, List, [], ◌∷◌, ◌++◌, length, get_or, take, drop, set, replicate, None, sym, refl, ap, ◌∙◌, pow-suc, arith}
+use Rattle.std.proofs.Common.{◌≡◌, ℕ, zero, suc, ◌+◌, ◌-◌, ◌*◌, ◌/◌, ◌%◌, ◌^◌, ◌<◌, ◌≤◌, ◌&&◌, ◌||◌, true, false, eqb, Bool, List, [], ◌∷◌, ◌++◌, length, get_or, take, drop, set, replicate, None, sym, refl, ap, ◌∙◌, pow-suc, add-one, zero-add, arith}
 use native.Mathlib.Nat.{div-div-eq-div-mul}
-use Rattle.std.proofs.lemmas.Bool.{ne_eqb, eq-eqb, or_right}
+use Rattle.std.proofs.Math.Bool.{and_assoc}
 use Rattle.std.proofs.lemmas.List.{append_assoc, take_more, length-take-le, drop-drop, set_at}
+use Rattle.std.specs.List.{list_all, enumerate_from}
 use Rattle.std.specs.Simd.{first_chunks}
 use Rattle.terms.specs.Cells.{Cell, Row}
 use Rattle.sources.specs.Answers.{six_cells}
@@ -48,22 +49,23 @@ six_more row i h few =
     ∙ ap (λ l. l ++ replicate (6 - (i + 1)) None) (sym (take_more row i None h))
     ∙ ap (λ m. take (i + 1) row ++ replicate (6 - m) None) (sym next))
 
--- one cell off the bytes that are checked: it is wrong, or it is right
-right_next : (n i mark : ℕ) (bs : List ℕ) → i < n → cells_right (n - i) mark (drop (4 * i) bs) ≡ ((eqb (mark % 2) 0 || eqb (word (drop (4 * i) bs)) 0) && cells_right (n - (i + 1)) (mark / 2) (drop (4 * (i + 1)) bs))
-right_next n i mark bs h =
-    let more : n - i ≡ suc (n - (i + 1)) = omega arith in
-    let rest : drop 4 (drop (4 * i) bs) ≡ drop (4 * (i + 1)) bs = drop-drop 4 (4 * i) bs ∙ ap (λ m. drop m bs) (omega arith) in
-    ap (λ m. cells_right m mark (drop (4 * i) bs)) more
-    ∙ ap (λ l. (eqb (mark % 2) 0 || eqb (word (drop (4 * i) bs)) 0) && cells_right (n - (i + 1)) (mark / 2) l) rest
+-- the check of each cell by its column's bit, from the column k on
+abbrev pub cell_passes : ℕ → ℕ × List ℕ → Bool
+cell_passes mark cell = eqb (mark / 2 ^ cell.0 % 2) 0 || eqb (word cell.1) 0
 
-pub cell_wrong : (n i mark w : ℕ) (bs : List ℕ) → i < n → w ≡ word (drop (4 * i) bs) → ¬ (mark % 2 ≡ 0) → ¬ (w ≡ 0) → cells_right (n - i) mark (drop (4 * i) bs) ≡ false
-cell_wrong n i mark w bs h e a b =
-    let p : eqb (mark % 2) 0 ≡ false = ne_eqb _ _ a in
-    let q : eqb (word (drop (4 * i) bs)) 0 ≡ false = ne_eqb _ _ (λ z. b (e ∙ z)) in
-    right_next n i mark bs h ∙ rw (p, q)
+cells_pass : (n k mark : ℕ) (bs : List ℕ) → (list_all (cell_passes mark) (enumerate_from k (first_chunks 4 n bs)) && eqb (mark / 2 ^ (k + n)) 0) ≡ cells_right n (mark / 2 ^ k) bs
+cells_pass zero k mark bs = ap (λ m. eqb (mark / 2 ^ m) 0) (omega arith)
+cells_pass (suc n) k mark bs =
+    let half : mark / 2 ^ (k + 1) ≡ mark / 2 ^ k / 2 = ap (λ m. mark / 2 ^ m) (add-one k) ∙ ap (λ p. mark / p) (omega (arith, pow-suc 2 k)) ∙ sym (div-div-eq-div-mul mark (2 ^ k) 2) in
+    let later : Bool = list_all (cell_passes mark) (enumerate_from (k + 1) (first_chunks 4 n (drop 4 bs))) in
+    let place : k + suc n ≡ (k + 1) + n = omega arith in
+    and_assoc (cell_passes mark (k, take 4 bs)) later (eqb (mark / 2 ^ (k + suc n)) 0)
+    ∙ ap (λ w. (eqb (mark / 2 ^ k % 2) 0 || eqb w 0) && (later && eqb (mark / 2 ^ (k + suc n)) 0)) (word_is bs)
+    ∙ ap (λ b. (eqb (mark / 2 ^ k % 2) 0 || eqb (word bs) 0) && b)
+    (ap (λ m. later && eqb (mark / 2 ^ m) 0) place ∙ cells_pass n (k + 1) mark (drop 4 bs) ∙ ap (λ m. cells_right n m (drop 4 bs)) half)
 
-pub cell_right : (n i mark w : ℕ) (bs : List ℕ) → i < n → w ≡ word (drop (4 * i) bs) → (mark % 2 ≡ 0) ⊎ (w ≡ 0) → cells_right (n - (i + 1)) (mark / 2) (drop (4 * (i + 1)) bs) ≡ cells_right (n - i) mark (drop (4 * i) bs)
-cell_right n i mark w bs h e (inl a) = let p : eqb (mark % 2) 0 ≡ true = eq-eqb _ _ a in sym (right_next n i mark bs h ∙ rw p)
-cell_right n i mark w bs h e (inr b) =
-    let q : eqb (word (drop (4 * i) bs)) 0 ≡ true = eq-eqb _ _ (sym e ∙ b) in
-    sym (right_next n i mark bs h ∙ rw (q, or_right (eqb (mark % 2) 0) true refl))
+pub all_pass : (n mark : ℕ) (bs : List ℕ) → (list_all (cell_passes mark) (enumerate_from 0 (first_chunks 4 n bs)) && eqb (mark / 2 ^ n) 0) ≡ cells_right n mark bs
+all_pass n mark bs =
+    ap (λ m. list_all (cell_passes mark) (enumerate_from 0 (first_chunks 4 n bs)) && eqb (mark / 2 ^ m) 0) (sym (zero-add n))
+    ∙ cells_pass n 0 mark bs
+    ∙ ap (λ m. cells_right n m bs) (omega arith)

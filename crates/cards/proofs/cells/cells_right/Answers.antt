@@ -1,21 +1,26 @@
-use Rattle.std.proofs.Common.{◌≡◌, ◌*◌, ◌/◌, ◌<◌, length, drop, sym, ◌∙◌, inl, inr, ⊎_elim, arith}
-use Rattle.cards.specs.Format.{word}
-use Rattle.cards.proofs.CellSteps.{cell_wrong, cell_right, word_at}
+use Rattle.std.proofs.Common.{◌≡◌, ◌/◌, ◌^◌, ◌&&◌, eqb, length, sym, ap, ◌∙◌, arith, rules, tests}
+use Rattle.std.proofs.lemmas.Iterator.{YieldsList-from_slice}
+use Rattle.std.proofs.lemmas.Iterator.Consumers.{YieldsList-at, YieldsList-from_enumerate}
+use Rattle.std.proofs.lemmas.Iterator.Search.{all_from_yields_List}
+use Rattle.std.specs.List.{list_all, enumerate_from}
+use Rattle.std.specs.Simd.{first_chunks}
+use Rattle.cards.specs.Format.{cells_right}
+use Rattle.cards.proofs.CellSteps.{cell_passes, all_pass}
 use Rattle.cards.proofs.cells.cells_right.Goals as goal
-use Rattle.cards.proofs.cells.cells_right.Goals.{After-from_le_bytes-word}
+use Rattle.cards.proofs.cells.cells_right.Goals.{After-all-all}
 
-word_here : (c : After-from_le_bytes-word) → (c.loop-bytes.bytes-index < c.args.columns) × (c.from_le_bytes-word.result ≡ word (drop (4 * c.loop-bytes.bytes-index) c.args.bytes.now))
-word_here c =
-    let bs = c.args.bytes.now in
-    let long = c.as_chunks.ensures.front_len in
-    (omega (arith, long), c.from_le_bytes-word.ensures ∙ word_at (length bs / 4) c.as_chunks.result.0.now bs c.loop-bytes.bytes-index c.as_chunks.ensures.front (omega (arith, long)))
+all_right : (c : After-all-all) → (c.all-all.result && eqb (c.args.mark / 2 ^ c.args.columns) 0) ≡ cells_right c.args.columns c.args.mark c.args.bytes.now
+all_right c =
+    let words = c.as_chunks.result.0.now in
+    let road = YieldsList-from_enumerate (YieldsList-at c.enumerate.ensures.source (YieldsList-from_slice words c.iter.ensures.rest)) c.enumerate.ensures.count in
+    let all : c.all-all.result ≡ list_all (cell_passes c.args.mark) (enumerate_from 0 words) = all_from_yields_List (cell_passes c.args.mark) _ _ _ c.all-all.ensures.ran road (λ x b q k. search (rules, tests)) in
+    let front = c.as_chunks.ensures.front in
+    let count : length c.args.bytes.now / 4 ≡ c.args.columns = omega (arith, c.requires.long) in
+    ap (λ b. b && eqb (c.args.mark / 2 ^ c.args.columns) 0) (all ∙ ap (λ ws. list_all (cell_passes c.args.mark) (enumerate_from 0 ws)) (front ∙ ap (λ n. first_chunks 4 n c.args.bytes.now) count))
+    ∙ all_pass c.args.columns c.args.mark c.args.bytes.now
 
-pub returns-then-word-ne0 : goal.returns-then-word-ne0
-returns-then-word-ne0 c =
-    let here = word_here (goal.at.returns-then-word-ne0 c).After-from_le_bytes-word in
-    sym (cell_wrong c.args.columns c.loop-bytes.bytes-index c.loop-bytes.left _ c.args.bytes.now here.0 here.1 c.if-left-ne0.true c.if-word-ne0.true) ∙ c.loop-bytes.invariant
+pub returns-then-all : goal.returns-then-all
+returns-then-all c = ap (λ b. b && eqb (c.args.mark / 2 ^ c.args.columns) 0) (sym c.if-all.true) ∙ all_right (goal.at.returns-then-all c).After-all-all
 
-pub loop-bytes-preserved : goal.loop-bytes-preserved
-loop-bytes-preserved c =
-    let here = word_here (goal.at.loop-bytes-preserved c).After-from_le_bytes-word in
-    cell_right c.args.columns c.loop-bytes.bytes-index c.loop-bytes.left _ c.args.bytes.now here.0 here.1 (⊎_elim (λ w. inr w.1) inl c.else-left-ne0.either) ∙ c.loop-bytes.invariant
+pub returns-else-all : goal.returns-else-all
+returns-else-all c = c.if-all.false ∙ ap (λ b. b && eqb (c.args.mark / 2 ^ c.args.columns) 0) (sym c.if-all.false) ∙ all_right (goal.at.returns-else-all c).After-all-all
