@@ -1,11 +1,11 @@
 -- The cells of a row, four bytes each, one after another.
-use Rattle.std.proofs.Common.{◌≡◌, ℕ, zero, suc, ◌+◌, ◌-◌, ◌*◌, ◌/◌, ◌%◌, ◌^◌, ◌<◌, ◌≤◌, ◌&&◌, ◌||◌, true, false, eqb, Bool, List, [], ◌∷◌, ◌++◌, length, get_or, take, drop, set, replicate, None, sym, refl, ap, ◌∙◌, pow-suc, add-one, zero-add, arith}
+use Rattle.std.proofs.Common.{◌≡◌, ℕ, zero, suc, ◌+◌, ◌-◌, ◌*◌, ◌/◌, ◌%◌, ◌^◌, ◌<◌, ◌≤◌, ◌&&◌, ◌||◌, eqb, Bool, List, [], ◌∷◌, ◌++◌, length, get_or, take, drop, set, replicate, None, sym, refl, ap, ◌∙◌, pow-suc, add-one, zero-add, arith}
 use native.Mathlib.Nat.{div-div-eq-div-mul}
 use Rattle.std.proofs.Math.Bool.{and_assoc}
 use Rattle.std.proofs.lemmas.List.{append_assoc, take_more, length-take-le, drop-drop, set_at}
 use Rattle.std.specs.List.{list_all, enumerate_from}
 use Rattle.std.specs.Simd.{first_chunks}
-use Rattle.terms.specs.Cells.{Cell, Row}
+use Rattle.terms.specs.Cells.{Row}
 use Rattle.sources.specs.Answers.{six_cells}
 use Rattle.cards.specs.Format.{word, first_cell, cells_of, cells_right}
 

@@ -1,6 +1,6 @@
 -- The rows of a table's bytes, cut off by `chunks_exact`.
-use Rattle.std.proofs.Common.{◌≡◌, ℕ, zero, suc, ◌+◌, ◌-◌, ◌/◌, ◌%◌, ◌<◌, ◌≤◌, ◌&&◌, Bool, true, cond, eqb, leb, List, ◌∷◌, ◌++◌, length, take, drop, Ok, Err, refl, sym, ap, ◌∙◌, arith}
-use native.Mathlib.Nat.{div-eq_of_lt}
+use Rattle.std.proofs.Common.{◌≡◌, ℕ, zero, suc, ◌+◌, ◌-◌, ◌/◌, ◌%◌, ◌<◌, ◌≤◌, ◌&&◌, Bool, true, cond, eqb, leb, List, ◌∷◌, ◌++◌, length, take, drop, Ok, Err, refl, sym, ap, ◌∙◌, add-one, arith}
+use native.Mathlib.Nat.{div-eq_of_lt, div-eq-sub-div}
 use Rattle.std.proofs.lemmas.List.{length-append, take_at, drop_at}
 use Rattle.std.proofs.lemmas.Bool.{eq-eqb, le-leb}
 use Rattle.std.proofs.lemmas.Iterator.{YieldsList}
@@ -12,19 +12,19 @@ use Rattle.std.specs.declared.slice.ChunksExact.{ChunksExact}
 use Rattle.terms.specs.declared.refusals.Refusal.TheVariants.{BadRow}
 use Rattle.cards.specs.Format.{row_width, row_right, rows_right}
 use Rattle.cards.specs.Verdicts.{row_count, rows_verdict}
-use Rattle.cards.proofs.RowSteps.{part_div}
 
 -- the chunks that are left
 abbrev pub chunks_left : {X : Type 0} → ChunksExact X → List (List X)
 chunks_left s = first_chunks (chunks_exact_size s) (length (chunks_exact_rest s) / chunks_exact_size s) (chunks_exact_rest s)
 
+-- the first chunk, cut off
 chunk_next : {X : Type 0} (w : ℕ) (xs x ys : List X) → 0 < w → xs ≡ x ++ ys → length x ≡ w → first_chunks w (length xs / w) xs ≡ x ∷ first_chunks w (length ys / w) ys
 chunk_next w xs x ys p e l =
     let long : length xs ≡ w + length ys = ap length e ∙ length-append x ys ∙ ap (λ m. m + length ys) l in
     let front : take w xs ≡ x = ap (take w) e ∙ take_at x ys w l in
     let back : drop w xs ≡ ys = ap (drop w) e ∙ drop_at x ys w l in
     let fewer : length xs - w ≡ length ys = omega arith in
-    ap (λ m. first_chunks w m xs) (part_div w (length xs) p (omega arith)) ∙ rw (front, back, fewer) refl
+    ap (λ m. first_chunks w m xs) (div-eq-sub-div p (omega arith) ∙ add-one _) ∙ rw (front, back, fewer) refl
 
 pub yields_chunks : {X : Type 0} (s : ChunksExact X) → 0 < chunks_exact_size s → YieldsList chunks_exact_steps (λ x. x.now) s (chunks_left s)
 yields_chunks s p =

@@ -1,27 +1,16 @@
--- The search for a table through the records, and for a row in its bytes.
-use Rattle.std.proofs.Common.{◌≡◌, ℕ, zero, suc, ◌+◌, ◌-◌, ◌*◌, ◌/◌, ◌<◌, ◌≤◌, true, List, [], ◌∷◌, ◌++◌, length, get_or, take, drop, is_ok, Some, None, Option, IfSome, sym, refl, ap, ◌∙◌, ⊎_elim, suc-mul, div-add-mod', zero-mul, arith, length-drop, length-take, take-add}
-use Rattle.std.proofs.lemmas.Nat.{mul-le}
+-- What is found in an image: a table, and a row of it.
+use Rattle.std.proofs.Common.{◌≡◌, ℕ, zero, suc, ◌+◌, ◌-◌, ◌*◌, ◌<◌, ◌≤◌, true, List, take, drop, Some, None, Option, IfSome, sym, ap, ◌∙◌, suc-mul, zero-mul, arith}
 use Rattle.std.proofs.lemmas.List.{drop-drop}
 use Rattle.std.proofs.lemmas.Option.{slice_get_past}
-use Rattle.std.proofs.lemmas.Bool.{cases_lt, true≢false}
 use Rattle.std.specs.List.{slice_get}
 use Rattle.std.specs.Option.{option_map}
 use Rattle.terms.specs.Tables.{row_at}
-use Rattle.terms.proofs.Loops.{numbered_in_front, numbered_behind}
-use Rattle.terms.proofs.Taken.{taken_at}
-use Rattle.cards.specs.Format.{left, row_width, row_of, rows_from}
-use Rattle.cards.specs.Heads.{Headed}
+use Rattle.cards.specs.Format.{row_width, row_of, rows_from}
 use Rattle.cards.specs.Verdicts.{row_count, card_takes}
-use Rattle.cards.specs.CardTables.{RawTable, table_in_payload, table_in, tables_in, table_for, raw_table, shown, card_tables}
+use Rattle.cards.specs.CardTables.{RawTable, raw_table, shown, card_tables}
 use Rattle.cards.specs.CardFormed.{Sound, sound_table, length_rows}
 use Rattle.cards.specs.declared.format.TableBytes.{TableBytes}
 use Rattle.cards.specs.Views.{as_raw}
-
--- the slice pattern's view of a table's payload
-pub table_in_is : (whole p : List ℕ) → 2 ≤ length p → table_in_payload whole p ≡ record { whole = whole; number = get_or p 0 0; columns = get_or p 1 0; bytes = drop 2 p } ∷ []
-table_in_is whole [] h = absurd (omega arith)
-table_in_is whole (a ∷ []) h = absurd (omega arith)
-table_in_is whole (a ∷ (b ∷ p)) h = refl
 
 -- a table that was found is sound
 pub sound_found : (image : List ℕ) (n : ℕ) (o : Option TableBytes) → card_takes image ≡ true → option_map as_raw o ≡ raw_table image n → IfSome o (λ t. Sound n (as_raw t))
@@ -37,18 +26,11 @@ nth_row (suc n) columns bs (suc k) h =
     nth_row n columns (drop (row_width columns) bs) k (omega arith)
     ∙ ap (λ l. Some (row_of columns (take (row_width columns) l))) (drop-drop (k * row_width columns) (row_width columns) bs ∙ ap (λ m. drop m bs) (omega (arith, suc-mul k (row_width columns))))
 
--- a row below the count lies within the bytes
-pub row_fits : (w n row : ℕ) → row < n / w → row * w + w ≤ n
-row_fits w n row h = omega (arith, div-add-mod' n w, mul-le (suc row) w (n / w) w h (omega arith), suc-mul row w)
-
 -- the row as the code cuts it out
 pub row_here : (image : List ℕ) (n : ℕ) (t : RawTable) (k w : ℕ) → Some t ≡ raw_table image n → w ≡ row_width t.columns → k < row_count t.columns t.bytes → Some (row_of t.columns (take ((k * w + w) - k * w) (drop (k * w) t.bytes))) ≡ row_at (card_tables image n) k
 row_here image n t k w found e h =
     let size : (k * w + w) - k * w ≡ w = omega arith in
     rw size (rw e (sym (nth_row (row_count t.columns t.bytes) t.columns t.bytes k h)) ∙ ap (λ o. row_at (option_map shown o) k) found)
-
-pub row_long : (t : RawTable) (k w : ℕ) → w ≡ row_width t.columns → k < row_count t.columns t.bytes → length (take ((k * w + w) - k * w) (drop (k * w) t.bytes)) ≡ row_width t.columns
-row_long t k w e h = simp (length-take, length-drop) (omega (arith, row_fits w (length t.bytes) k (rw e h)))
 
 pub row_past : (image : List ℕ) (n : ℕ) (t : RawTable) (k : ℕ) → Some t ≡ raw_table image n → row_count t.columns t.bytes ≤ k → None ≡ row_at (card_tables image n) k
 row_past image n t k found h = sym (slice_get_past _ k (rw length_rows h)) ∙ ap (λ o. row_at (option_map shown o) k) found

@@ -1,4 +1,3 @@
-pub mod RowSteps
 pub mod RecordSteps
 pub mod Found
 pub mod CellSteps

@@ -1,5 +1,5 @@
 -- The records of an image, one after another.
-use Rattle.std.proofs.Common.{◌≡◌, ℕ, zero, suc, ◌+◌, ◌*◌, ◌<◌, ◌≤◌, min, false, ltb, List, [], ◌∷◌, ◌++◌, length, take, drop, sym, refl, ap, ◌∙◌, ⊎_elim, arith, length-drop, length-take, take-add}
+use Rattle.std.proofs.Common.{◌≡◌, ℕ, zero, suc, ◌+◌, ◌*◌, ◌<◌, ◌≤◌, min, false, ltb, List, [], ◌∷◌, ◌++◌, length, take, drop, refl, ap, ◌∙◌, ⊎_elim, arith, length-drop, length-take, take-add}
 use Rattle.std.proofs.lemmas.Bool.{cases_lt, le-ltb}
 use Rattle.std.proofs.lemmas.List.{take_min, drop_min, drop_all}
 use Rattle.cards.specs.Format.{CardRecord, cut, records, left}
@@ -35,13 +35,6 @@ left_next place (l0 ∷ (l1 ∷ (k0 ∷ (k1 ∷ rest)))) h =
     let bs : List ℕ = l0 ∷ (l1 ∷ (k0 ∷ (k1 ∷ rest))) in
     ap (λ rs. record_at place bs ∷ rs)
     (cut_fuel (suc (suc (suc (length rest)))) (length (drop (size_at bs) rest)) (place + (4 + size_at bs)) (drop (size_at bs) rest) (simp length-drop (omega arith)) (omega arith))
-
-pub left_end : (place : ℕ) (bs : List ℕ) → length bs < 4 → left place bs ≡ []
-left_end place [] h = refl
-left_end place (a ∷ []) h = refl
-left_end place (a ∷ (b ∷ [])) h = refl
-left_end place (a ∷ (b ∷ (c ∷ []))) h = refl
-left_end place (a ∷ (b ∷ (c ∷ (d ∷ bs)))) h = absurd (omega arith)
 
 -- where a record's payload ends before its size, nothing is left of the image
 next_place : (place size : ℕ) (tail : List ℕ) → left (place + (4 + length (take size tail))) (drop size tail) ≡ left (place + (4 + size)) (drop size tail)

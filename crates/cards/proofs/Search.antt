@@ -1,10 +1,10 @@
 -- What `find_map` answers over an iterator that shows the list of what is left.
-use Rattle.std.proofs.Common.{◌≡◌, ℕ, suc, ◌+◌, ◌<◌, List, [], ◌∷◌, Some, None, Option, Bool, true, IsTrue, IfSome, MatchOption, sym, refl, ap, ◌∙◌, subst, arith}
+use Rattle.std.proofs.Common.{◌≡◌, ℕ, suc, ◌+◌, ◌<◌, List, [], ◌∷◌, Some, None, Option, IsTrue, IfSome, MatchOption, sym, refl, ap, ◌∙◌, subst}
 use Rattle.std.specs.List.{FoldsTo, slice_get}
 use Rattle.std.specs.Option.{option_map, option_or}
 use Rattle.std.specs.Fn.{Called}
 use Rattle.std.specs.Iterator.{Yields, YieldsThen, YieldsFirstBy, FindsMapped}
-use Rattle.std.specs.Iterator.Runs.{Run, SomeRun, AllItemsGive, IsFirstToGive, YieldsRun}
+use Rattle.std.specs.Iterator.Runs.{SomeRun, AllItemsGive, IsFirstToGive, YieldsRun}
 use denote.Param.Members.{Mut}
 use Rattle.terms.proofs.Loops.{numbered_in_front, numbered_behind}
 use Rattle.cards.specs.Format.{CardRecord}

@@ -1,7 +1,7 @@
 -- The first head with a number, in std's words.
 use Rattle.std.proofs.Common.{◌≡◌, ℕ, eqb, List, refl}
 use Rattle.std.proofs.lemmas.List.Recursion.{same_from_clauses}
-use Rattle.std.proofs.Common.{cond, Some, None}
+use Rattle.std.proofs.Common.{cond, Some}
 use Rattle.std.specs.List.{find}
 use Rattle.sources.specs.declared.head.TableHead.{TableHead}
 use Rattle.sources.specs.Benches.{head_for}

@@ -1,5 +1,5 @@
 -- The image of one written table.
-use Rattle.std.proofs.Common.{◌≡◌, ℕ, ◌+◌, ◌*◌, ◌/◌, ◌%◌, ◌≤◌, true, false, eqb, leb, ltb, List, [], ◌∷◌, map, length, is_ok, Some, Ok, sym, refl, ap, ◌∙◌, mul-div_cancel, arith}
+use Rattle.std.proofs.Common.{◌≡◌, ℕ, ◌*◌, ◌/◌, ◌%◌, ◌≤◌, true, false, eqb, leb, ltb, List, [], ◌∷◌, map, length, is_ok, Some, Ok, sym, refl, ap, ◌∙◌, mul-div_cancel, arith}
 use native.Mathlib.Nat.{mul-mod_left}
 use Rattle.std.proofs.lemmas.Nat.{mul-le}
 use Rattle.std.proofs.lemmas.List.{take_all, drop_all}

@@ -1,10 +1,9 @@
 -- The record that a head is written as.
-use Rattle.std.proofs.Common.{◌≡◌, ℕ, zero, suc, ◌+◌, ◌-◌, ◌*◌, ◌/◌, ◌%◌, ◌≤◌, true, leb, List, [], ◌++◌, length, take, drop, is_ok, Ok, sym, refl, ap, ◌∙◌, subst, suc-mul, zero-mul, mul-div_cancel, arith, length-drop, length-take}
+use Rattle.std.proofs.Common.{◌≡◌, ℕ, zero, suc, ◌+◌, ◌-◌, ◌*◌, ◌/◌, ◌%◌, ◌≤◌, true, leb, List, ◌++◌, length, take, drop, is_ok, Ok, sym, refl, ap, ◌∙◌, subst, suc-mul, zero-mul, mul-div_cancel, arith, length-drop, length-take}
 use native.Mathlib.Nat.{mul-mod_left}
 use Rattle.std.proofs.lemmas.List.{length-append, take_at, take-take, drop-take, drop-drop}
 use borrow.Rule.Slice.PartMut.{put_mid}
 use Rattle.std.proofs.lemmas.Bool.{leb-true}
-use Rattle.std.proofs.lemmas.Nat.{mul-le}
 use Rattle.std.specs.List.{flat_map, AllByRecursion}
 use Rattle.terms.specs.Cells.{Cell, cell_in_range, every}
 use Rattle.terms.specs.Tables.{Filled}
@@ -39,9 +38,6 @@ length_rows zero columns cs h = sym (zero-mul (row_width columns))
 length_rows (suc n) columns cs h =
     let here : length (take columns cs) ≡ columns = rw length-take (omega (arith, h, suc-mul n columns)) in
     length-append (row_bytes (take columns cs)) _ ∙ omega (arith, length_row (take columns cs), ap row_width here, length_rows n columns (drop columns cs) (rw length-drop (omega (arith, h, suc-mul n columns))), suc-mul n (row_width columns))
-
-pub size_small : (n columns : ℕ) → n ≤ 1024 → columns ≤ 6 → n * row_width columns ≤ 25600
-size_small n columns h k = mul-le n (row_width columns) 1024 25 h (omega arith)
 
 -- the rows of a part that has just the rows' cells
 pub rows_part : (n columns : ℕ) (cs : List Cell) → rows_in n columns (take (n * columns) cs) ≡ rows_in n columns cs

@@ -8,8 +8,3 @@ returns c =
       found = c.in_ok-bytes.ensures;
       once = found_once card.image.now c.args.table c.in_ok-bytes.bytes.now card.passed c.in_ok-bytes.ensures c.check_bytes.ensures;
     }
-
-pub returns-in_err-bytes : goal.returns-in_err-bytes
-returns-in_err-bytes c =
-    rw c.from_residual.ensures
-    (record { found = c.in_err-bytes.ensures; once = none_once c.args.card.now.image.now c.args.table c.in_err-bytes.ensures })

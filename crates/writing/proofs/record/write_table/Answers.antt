@@ -1,6 +1,5 @@
-use Rattle.std.proofs.Common.{◌≡◌, ◌+◌, ◌-◌, ◌*◌, length, Ok, refl, ap, ◌∙◌, arith}
+use Rattle.std.proofs.Common.{◌≡◌, ◌+◌, ◌*◌, length, Ok, refl, ap, ◌∙◌, arith}
 use Rattle.std.specs.List.{flat_map}
-use Rattle.std.proofs.lemmas.Result.{err_from_is_err_and}
 use Rattle.writing.specs.Records.{row_bytes, head_bytes, head_record, written}
 use Rattle.writing.proofs.Writes.{taken, handed_whole, handed_rows, handed_is, rows_room, record_size, record_written, written_shows}
 use Rattle.writing.proofs.record.write_table.Goals as goal

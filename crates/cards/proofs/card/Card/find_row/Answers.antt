@@ -1,7 +1,7 @@
-use Rattle.std.proofs.Common.{◌<◌, length, rules}
+use Rattle.std.proofs.Common.{◌<◌}
 use Rattle.cards.specs.Verdicts.{row_count}
 use Rattle.cards.specs.Views.{as_raw}
-use Rattle.cards.proofs.Found.{row_fits, row_here, row_long, row_past}
+use Rattle.cards.proofs.Found.{row_here, row_past}
 use Rattle.cards.proofs.card.Card.find_row.Goals as goal
 
 pub returns-then-row-row_count : goal.returns-then-row-row_count
