@@ -1,17 +1,15 @@
 -- The rows of a head, one by one.
 use Rattle.std.proofs.Common.{◌≡◌, ℕ, zero, suc, ◌+◌, ◌-◌, ◌*◌, ◌<◌, ◌≤◌, List, map, length, take, drop, Some, None, sym, ap, ◌∙◌, suc-mul, zero-mul, arith}
-use Rattle.std.proofs.lemmas.Nat.{mul-le}
 use Rattle.std.proofs.lemmas.List.{drop-drop, length-map}
 use Rattle.std.proofs.lemmas.Option.{slice_get_past}
 use Rattle.std.specs.List.{slice_get}
 use Rattle.std.specs.Option.{option_map}
 use Rattle.terms.specs.Cells.{Cell}
 use Rattle.terms.specs.Tables.{row_at}
-use Rattle.sources.specs.declared.bench.Bench.{Bench}
 use Rattle.sources.specs.declared.head.TableHead.{TableHead}
 use Rattle.sources.specs.Heads.{rows_in, head_table}
 use Rattle.sources.specs.Benches.{head_for, bench_tables}
-use Rattle.sources.specs.BenchFormed.{Sound, sound_for, length_rows}
+use Rattle.sources.specs.BenchFormed.{length_rows}
 
 nth_row : (n columns : ℕ) (cells : List Cell) (k : ℕ) → k < n → slice_get (map Some (rows_in n columns cells)) k ≡ Some (Some (take columns (drop (k * columns) cells)))
 nth_row zero columns cells k h = absurd (omega arith)
@@ -31,16 +29,6 @@ length_table cells h = length-map _ _ ∙ length_rows h.rows h.columns (drop h.f
 
 pub row_past : (cells : List Cell) (h : TableHead) (k : ℕ) → h.rows ≤ k → slice_get (head_table cells h).rows k ≡ None
 row_past cells h k p = slice_get_past _ k (rw length_table p)
-
--- such a row lies within the cells
-pub row_inside : (len n : ℕ) (h : TableHead) (k : ℕ) → Sound len n h → k < h.rows → (h.first + k * h.columns) + h.columns ≤ len
-row_inside len n h k s p = omega (arith, s.inside, mul-le (suc k) h.columns h.rows h.columns p (omega arith), suc-mul k h.columns)
-
--- a row that was found on a bench lies within its cells, and has at most six
-pub found_inside : (b : Bench) (n : ℕ) (h : TableHead) (k : ℕ) → Some h ≡ head_for b.heads.now n → k < h.rows → ((h.first + k * h.columns) + h.columns ≤ length b.cells.now) × (h.columns ≤ 6)
-found_inside b n h k found p =
-    let s = sound_for b.heads.now b.cells.now n h b.taken (sym found) in
-    (row_inside (length b.cells.now) n h k s p, s.few_columns)
 
 -- the row as the code cuts it out
 pub row_found : (heads : List TableHead) (cells : List Cell) (n : ℕ) (h : TableHead) (k : ℕ) → Some h ≡ head_for heads n → k < h.rows → Some (Some (take (((h.first + k * h.columns) + h.columns) - (h.first + k * h.columns)) (drop (h.first + k * h.columns) cells))) ≡ row_at (bench_tables heads cells n) k

@@ -4,7 +4,7 @@ ghost use Rattle.std.specs.Option.{option_map};
 ghost use Rattle.terms.specs.Tables.{row_at};
 ghost use Rattle.sources.specs.Answers.{six_cells};
 ghost use Rattle.sources.specs.Benches.{head_for, bench_tables};
-ghost use Rattle.sources.specs.BenchFormed.{bench_formed};
+ghost use Rattle.sources.specs.BenchFormed.{Sound, bench_formed};
 
 use crate::bench::Bench;
 use crate::head::TableHead;
@@ -19,7 +19,7 @@ impl<'a> Source for Bench<'a> {
     ghost formed = { λ b. bench_formed b.heads.now b.cells.now b.taken b.ranged };
 
     fn shape(&self, table: u8) -> Option<Shape> {
-        let head = find_head(self.heads, table)?;
+        let head = self.find_head(table)?;
         Some(Shape::from(head))
     }
 
@@ -43,12 +43,23 @@ impl<'a> Source for Bench<'a> {
 }
 
 impl<'a> Bench<'a> {
+    // The head that counts for a number.
+    fn find_head(&self, number: u8) -> Option<TableHead>
+        ensures head { result ≡ head_for self.now.heads.now number }
+        ensures sound { IfSome result (Sound (length self.now.cells.now) number) }
+    {
+        self.heads
+            .iter()
+            .find(|head| head.number == number)
+            .copied()
+    }
+
     // The cells of a row, if the bench has that row.
     fn find_row(&self, table: u8, row: usize) -> Option<&'a [Cell]>
         ensures row { option_map (λ cells. Some cells.now) result ≡ row_at (bench_tables self.now.heads.now self.now.cells.now table) row }
         ensures few { IfSome result (λ cells. length cells.now ≤ 6) }
     {
-        let head = find_head(self.heads, table)?;
+        let head = self.find_head(table)?;
         if row >= head.rows {
             return None;
         }
@@ -56,12 +67,6 @@ impl<'a> Bench<'a> {
         let start = head.first + row * columns;
         Some(&self.cells[start..start + columns])
     }
-}
-
-fn find_head(heads: &[TableHead], number: u8) -> Option<TableHead>
-    ensures { result ≡ head_for heads.now number }
-{
-    heads.iter().find(|head| head.number == number).copied()
 }
 
 // A row's cells, and absent ones after them.
