@@ -1,5 +1,5 @@
 -- Steps of loops over a list, for the recursions that specs/ defines: by what is left of the list.
-use Rattle.std.proofs.Common.{◌≡◌, ℕ, ◌+◌, ◌<◌, ◌≤◌, Bool, true, false, cond, eqb, List, [], ◌∷◌, ◌++◌, length, get_or, drop, Some, None, Ok, Err, Result, sym, refl, ◌∙◌, arith}
+use Rattle.std.proofs.Common.{◌≡◌, ℕ, ◌+◌, ◌<◌, ◌≤◌, Bool, true, false, eqb, List, [], ◌∷◌, ◌++◌, length, get_or, drop, Some, None, Ok, Err, Result, sym, refl, ◌∙◌, arith}
 use Rattle.std.proofs.lemmas.List.{at_drop_more, at_drop_all}
 use Rattle.std.proofs.lemmas.Bool.{eq-eqb, ne_eqb}
 use Rattle.terms.specs.declared.refusals.Refusal.{Refusal}
@@ -28,26 +28,18 @@ numbered_none number n xs i h = sym (at_drop_all (λ l. numbered number l n) xs 
 
 -- what a list before another one has of a number
 pub numbered_in_front : {X : Type 0} (number : X → ℕ) (n : ℕ) (xs ys : List X) (x : X) → numbered number xs n ≡ Some x → numbered number (xs ++ ys) n ≡ Some x
-numbered_in_front number n [] ys x e = let z : ◌≡◌ {A = ℕ} 0 1 = cc in absurd (omega arith)
-numbered_in_front number n (a ∷ xs) ys x e = go (eqb (number a) n) e (numbered_in_front number n xs ys x)
-  where
-    go : (t : Bool) → cond t (Some a) (numbered number xs n) ≡ Some x → (numbered number xs n ≡ Some x → numbered number (xs ++ ys) n ≡ Some x) → cond t (Some a) (numbered number (xs ++ ys) n) ≡ Some x
-    go true e later = e
-    go false e later = later e
+numbered_in_front number n [] ys x e = cc
+numbered_in_front number n (a ∷ xs) ys x e = grind (arith, numbered_in_front number n xs ys x)
 
 pub numbered_behind : {X : Type 0} (number : X → ℕ) (n : ℕ) (xs ys : List X) → numbered number xs n ≡ None → numbered number (xs ++ ys) n ≡ numbered number ys n
 numbered_behind number n [] ys e = refl
-numbered_behind number n (a ∷ xs) ys e = go (eqb (number a) n) e (numbered_behind number n xs ys)
-  where
-    go : (t : Bool) → cond t (Some a) (numbered number xs n) ≡ None → (numbered number xs n ≡ None → numbered number (xs ++ ys) n ≡ numbered number ys n) → cond t (Some a) (numbered number (xs ++ ys) n) ≡ numbered number ys n
-    go true e later = let z : ◌≡◌ {A = ℕ} 0 1 = cc in absurd (omega arith)
-    go false e later = later e
+numbered_behind number n (a ∷ xs) ys e = grind (arith, numbered_behind number n xs ys)
 
 -- a part that is refused decides, and one that is taken leaves it to what comes later
 pub refused_here : (v : Result (Unit {0}) Refusal) (place : ℕ) (f : Fault) (later : Result (Unit {0}) Fault) → Err f ≡ refused_at v place (Ok tt) → Err f ≡ refused_at v place later
-refused_here (Ok _) place f later e = let z : ◌≡◌ {A = ℕ} 0 1 = cc in absurd (omega arith)
+refused_here (Ok _) place f later e = cc
 refused_here (Err w) place f later e = e
 
 pub refused_later : (v : Result (Unit {0}) Refusal) (place : ℕ) (u : Unit {0}) (later : Result (Unit {0}) Fault) → Ok u ≡ refused_at v place (Ok tt) → later ≡ refused_at v place later
 refused_later (Ok _) place u later e = refl
-refused_later (Err w) place u later e = let z : ◌≡◌ {A = ℕ} 0 1 = cc in absurd (omega arith)
+refused_later (Err w) place u later e = cc
