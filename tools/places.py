@@ -24,7 +24,7 @@ BY_TEXT = {
     '1f a result that says nothing': r'-> u8\n(    ensures [^\n]*\n)+\{\n    0\n\}',
     '1g an enum of two cases, one of them empty': r'enum \w+ \{\n(?: *//[^\n]*\n)* +\w+,\n(?: *//[^\n]*\n)* +\w+(?: \{[^}]*\}|\([^)]*\)),\n\}|enum \w+ \{\n(?: *//[^\n]*\n)* +\w+(?: \{[^}]*\}|\([^)]*\)),\n(?: *//[^\n]*\n)* +\w+,\n\}',
     '3a while': r'^ *(while |loop )',
-    '3b an index that counts up in a range': r"for \w+ in 0\.\.",
+    '3b an index that counts up in a range': r"for [a-z]\w* in 0\.\.",
     '3c a counter or a place moved on by hand': r'^\s*\w+ (\+= [1-9]\w*|\+= row_width[^;]*|/= 2|= \w+\.saturating_add\(1\));',
     '3d a search or a test of all by a loop': r'for [^\n]*\{\n\s*(if|let)[^}]*return (false|Some|true|key)',
     '3e elements written one by one': r'\w+\[[\w +]+\] = ',

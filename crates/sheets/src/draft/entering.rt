@@ -17,13 +17,12 @@ impl Draft {
         ensures draft { draft_of self.new ≡ entered (draft_of self.old) entry }
         ensures declined { is_ok result ≡ false → self.new ≡ self.old }
     {
-        match self.verdict(entry) {
-            Ok(part) => {
-                self.add(part);
-                Ok(())
-            }
-            Err(refusal) => Err(Fault::on_sheet(refusal, self.current())),
-        }
+        let block = self.current();
+        let part = self
+            .verdict(entry)
+            .map_err(|refusal| Fault::on_sheet(refusal, block))?;
+        self.add(part);
+        Ok(())
     }
 
     // The query so far.
@@ -46,10 +45,7 @@ impl Draft {
     fn current(&self) -> u8
         ensures { result ≡ current (draft_of self.now) }
     {
-        match self.query() {
-            Some(query) => query.depth() as u8,
-            None => 0,
-        }
+        self.query().map_or(0, |query| query.depth() as u8)
     }
 
     // What the entry brings, or why it is declined: the checks in their order.
