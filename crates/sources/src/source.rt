@@ -32,9 +32,6 @@ pub trait Source {
     // The read meter.
     ghost reads: { Self → ℕ };
 
-    // Each number from 1 to 16 has no table, or one of 1 to 6 columns and at most 1,024 rows.
-    ghost formed: { (s : Self) → WellFormed (tables s) };
-
     // The columns and rows of a table; None where no table has the number.
     fn shape(&self, table: u8) -> Option<Shape>
         ensures value { result ≡ shape_of (tables self.now table) }
@@ -51,4 +48,7 @@ pub trait Source {
     // How many rows were read, modulo 2^64.
     fn meter(&self) -> u64
         ensures { result ≡ reads self.now };
+
+    // Each number from 1 to 16 has no table, or one of 1 to 6 columns and at most 1,024 rows.
+    ghost formed: { (s : Self) → WellFormed (tables s) };
 }
