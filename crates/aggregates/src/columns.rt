@@ -1,10 +1,13 @@
 // The functions of SQL over a column's cells.
-ghost use Rattle.meaning.specs.Aggregates.{count, sum, least, greatest};
+ghost use Rattle.std.specs.Prelude.{◌≡◌};
+ghost use Rattle.std.specs.Int.{int_min, int_max};
+ghost use Rattle.meaning.specs.Aggregates.{count, plus};
 
+use crate::combine::Combine;
 use crate::function::AggregateFunction;
 use terms::Cell;
 
-// COUNT: how many cells are present.
+// COUNT: how many cells are present. It stops at the end of the 64-bit range.
 pub struct Count;
 
 impl AggregateFunction for Count {
@@ -31,74 +34,32 @@ impl AggregateFunction for Count {
 // SUM: the present cells added up, absent where there is none. It stops at the ends of the 64-bit range.
 pub struct Sum;
 
-impl AggregateFunction for Sum {
-    type Total = Option<i64>;
+impl Combine for Sum {
+    ghost combined = { plus };
 
-    ghost meaning = { sum };
-
-    fn start() -> Option<i64> {
-        None
-    }
-
-    fn step(total: Option<i64>, cell: Cell) -> Option<i64> {
-        match (total, cell) {
-            (total, None) => total,
-            (None, Some(x)) => Some(x as i64),
-            (Some(sum), Some(x)) => Some(sum.saturating_add(x as i64)),
-        }
-    }
-
-    fn answer(total: &Option<i64>) -> Option<i64> {
-        *total
+    fn combine(so_far: i64, next: i64) -> i64 {
+        so_far.saturating_add(next)
     }
 }
 
 // MIN: the least of the present cells, absent where there is none.
 pub struct Min;
 
-impl AggregateFunction for Min {
-    type Total = Option<i64>;
+impl Combine for Min {
+    ghost combined = { int_min };
 
-    ghost meaning = { least };
-
-    fn start() -> Option<i64> {
-        None
-    }
-
-    fn step(total: Option<i64>, cell: Cell) -> Option<i64> {
-        match (total, cell) {
-            (total, None) => total,
-            (None, Some(x)) => Some(x as i64),
-            (Some(least), Some(x)) => Some(least.min(x as i64)),
-        }
-    }
-
-    fn answer(total: &Option<i64>) -> Option<i64> {
-        *total
+    fn combine(so_far: i64, next: i64) -> i64 {
+        so_far.min(next)
     }
 }
 
 // MAX: the greatest of the present cells, absent where there is none.
 pub struct Max;
 
-impl AggregateFunction for Max {
-    type Total = Option<i64>;
+impl Combine for Max {
+    ghost combined = { int_max };
 
-    ghost meaning = { greatest };
-
-    fn start() -> Option<i64> {
-        None
-    }
-
-    fn step(total: Option<i64>, cell: Cell) -> Option<i64> {
-        match (total, cell) {
-            (total, None) => total,
-            (None, Some(x)) => Some(x as i64),
-            (Some(greatest), Some(x)) => Some(greatest.max(x as i64)),
-        }
-    }
-
-    fn answer(total: &Option<i64>) -> Option<i64> {
-        *total
+    fn combine(so_far: i64, next: i64) -> i64 {
+        so_far.max(next)
     }
 }

@@ -1,29 +1,13 @@
 // The first recorder's house aggregate.
-ghost use Rattle.meaning.specs.Aggregates.{last};
-
-use crate::function::AggregateFunction;
-use terms::Cell;
+use crate::combine::Combine;
 
 // LAST: the last present cell, absent where there is none.
 pub struct Last;
 
-impl AggregateFunction for Last {
-    type Total = Option<i64>;
+impl Combine for Last {
+    ghost combined = { λ so_far next. next };
 
-    ghost meaning = { last };
-
-    fn start() -> Option<i64> {
-        None
-    }
-
-    fn step(total: Option<i64>, cell: Cell) -> Option<i64> {
-        match cell {
-            Some(x) => Some(x as i64),
-            None => total,
-        }
-    }
-
-    fn answer(total: &Option<i64>) -> Option<i64> {
-        *total
+    fn combine(_so_far: i64, next: i64) -> i64 {
+        next
     }
 }

@@ -1,7 +1,7 @@
--- The turns of the loops that look an answer up and that filter.
-use Rattle.std.proofs.Common.{◌≡◌, ℕ, ◌+◌, ◌-◌, ◌*◌, ◌<◌, ◌≤◌, Bool, true, false, cond, List, [], ◌∷◌, ◌++◌, length, get_or, take, drop, None, filter, sym, refl, ap, ◌∙◌, ap₂, arith, length-drop}
+-- The turns of the loop that filters.
+use Rattle.std.proofs.Common.{◌≡◌, ℕ, ◌+◌, ◌-◌, ◌*◌, ◌≤◌, Bool, true, false, cond, List, [], ◌∷◌, ◌++◌, length, take, drop, filter, sym, refl, ap, ◌∙◌, ap₂, arith, length-drop}
 use lib.Seq.{paste}
-use Rattle.std.proofs.lemmas.List.{drop_more, drop_all, drop-drop, append-nil, get_or-map, length-map}
+use Rattle.std.proofs.lemmas.List.{drop-drop, append-nil}
 use Rattle.std.proofs.lemmas.List.Edits.{drop-paste}
 use Rattle.std.proofs.lemmas.Nat.{mul-le}
 use Rattle.terms.specs.declared.comparisons.Comparison.{Comparison}
@@ -10,42 +10,9 @@ use Rattle.terms.specs.Cells.{Cell, Row}
 use Rattle.sources.specs.Heads.{rows_in}
 use Rattle.queries.specs.declared.parts.Link.{Link}
 use Rattle.queries.specs.declared.steps.Operand.{Operand}
-use Rattle.meaning.specs.Rows.{alike}
-use Rattle.meaning.specs.Running.{Group, answer_for, unanswered, operand_of, passes, tuple_of}
-use Rattle.engine.specs.Rows.{row_in, group_in, groups_in}
-use Rattle.engine.proofs.RowsIn.{length_rows, get_d_rows, rows_paste, next_row, kept_rows_more}
-
-module _ (n count t : ℕ) (keys p : List Cell) where
-  abbrev all : List Group
-  all = groups_in count (n + 1) keys
-
-  long : length all ≡ count
-  long = length-map (rows_in count (n + 1) keys) (group_in (n + 1 - 1)) ∙ length_rows count (n + 1) keys
-
-  here : t < count → get_or all t (unanswered []) ≡ group_in n (row_in (n + 1) keys t)
-  here h =
-      let e : n + 1 - 1 ≡ n = omega arith in
-      get_or-map (group_in (n + 1 - 1)) (rows_in count (n + 1) keys) t [] (unanswered []) (rw (length_rows count (n + 1) keys) h)
-      ∙ ap (group_in (n + 1 - 1)) (get_d_rows count (n + 1) keys t h)
-      ∙ ap (λ m. group_in m (row_in (n + 1) keys t)) e
-
-  answer_more : t < count → answer_for (drop t all) p ≡ cond (alike p (take n (row_in (n + 1) keys t))) (get_or (row_in (n + 1) keys t) n None) (answer_for (drop (t + 1) all) p)
-  answer_more h =
-      ap (λ gs. answer_for gs p) (drop_more all t (unanswered []) (rw long h))
-      ∙ ap (λ (g : Group). cond (alike p g.tuple) g.answer (answer_for (drop (t + 1) all) p)) (here h)
-
-  module _ {key tuple : List Cell} (h : t < count) (inv : answer_for (drop t all) p ≡ answer_for all p) (k : key ≡ row_in (n + 1) keys t) (tu : tuple ≡ take n key) where
-    same : alike p tuple ≡ alike p (take n (row_in (n + 1) keys t))
-    same = ap (alike p) (tu ∙ ap (take n) k)
-
-    pub answer_here : true ≡ alike p tuple → get_or key n None ≡ answer_for all p
-    answer_here yes' = ap (λ r. get_or r n None) k ∙ sym (sym inv ∙ answer_more h ∙ ap (λ b. cond b (get_or (row_in (n + 1) keys t) n None) (answer_for (drop (t + 1) all) p)) (sym (yes' ∙ same)))
-
-    pub answer_on : false ≡ alike p tuple → answer_for (drop (t + 1) all) p ≡ answer_for all p
-    answer_on no' = sym (sym inv ∙ answer_more h ∙ ap (λ b. cond b (get_or (row_in (n + 1) keys t) n None) (answer_for (drop (t + 1) all) p)) (sym (no' ∙ same)))
-
-  pub answer_none : count ≤ t → answer_for (drop t all) p ≡ answer_for all p → None ≡ answer_for all p
-  answer_none h inv = sym (ap (λ gs. answer_for gs p) (drop_all t all (rw long h))) ∙ inv
+use Rattle.meaning.specs.Running.{Group, answer_for, operand_of, passes, tuple_of}
+use Rattle.engine.specs.Rows.{row_in}
+use Rattle.engine.proofs.RowsIn.{rows_paste, next_row, kept_rows_more}
 
 -- after i rows, of which left stay
 pub record Filtered (test : List Cell → Bool) (w : ℕ) (old new : List Cell) (left i : ℕ) : Type 0 where

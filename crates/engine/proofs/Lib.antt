@@ -1,9 +1,10 @@
 pub mod RowsIn
 pub mod Values
-pub mod Loops
-pub mod Ranging
+pub mod Chains
 pub mod Restricting
 pub mod Projecting
+pub mod Iterating
+pub mod Finding
 pub mod Grouping
 pub mod Filtering
 pub mod Writing

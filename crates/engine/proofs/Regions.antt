@@ -5,7 +5,8 @@ use borrow.Rule.Slice.PartMut.{put_mid}
 use Rattle.std.proofs.lemmas.Nat.{mul-le}
 use Rattle.std.specs.List.{between}
 use Rattle.std.proofs.lemmas.Bool.{cases_eq, cond-true, cond-false, eq-eqb, ne_eqb}
-use Rattle.std.proofs.lemmas.List.{get_or-set_same, get_or-set_other}
+use Rattle.std.proofs.lemmas.List.{get_or-set_other}
+use Rattle.std.proofs.lemmas.Grind.{get_or-set_at}
 use Rattle.std.proofs.lemmas.Slice.{between_is, between-put_mid, take-put_mid_below, drop-put_mid}
 use Rattle.terms.specs.declared.cells.WorkCell.{WorkCell}
 use Rattle.meaning.specs.Running.{put}
@@ -84,12 +85,9 @@ module _ {A X : Type 0} (F : ℕ → ℕ → List A → List X) where
         let first = ap (F n g.width) (s g.start (end_of g) (inl (laid_at (end_of g) l gs b h.1 m).after)) in
         ap (λ r. r ∷ seen F gs (set ns b k) ys) first ∙ ap (λ v. inside F g n xs ∷ v) (seen_changed (end_of g) l gs ns b k w h.1 v.1 m s e)
 
-set_at : {X : Type 0} (xs : List X) (b : ℕ) (v d : X) (n : ℕ) → b < length xs → n ≡ b → get_or (set xs b v) n d ≡ v
-set_at xs b v d n h e = ap (λ k. get_or (set xs b v) k d) e ∙ get_or-set_same xs b v d h
-
 get_or_set_put : {X : Type 0} (xs : List (List X)) (b : ℕ) (v : List X) → b < length xs → (n : ℕ) → get_or (set xs b v) n [] ≡ put (λ k. get_or xs k []) b v n
 get_or_set_put xs b v h n = elim (cases_eq n b) [
-  | inl e ↦ set_at xs b v [] n h e ∙ sym (cond-true (eqb n b) v (get_or xs n []) (eq-eqb n b e))
+  | inl e ↦ get_or-set_at xs b n v [] e h ∙ sym (cond-true (eqb n b) v (get_or xs n []) (eq-eqb n b e))
   | inr ne ↦ get_or-set_other xs b n v [] ne ∙ sym (cond-false (eqb n b) v (get_or xs n []) (ne_eqb n b ne))
 ]
 

@@ -30,13 +30,13 @@ pub shaped : (o : Option Table) → TableFormed o → Shaped o
 shaped None f = record { six = omega arith; few = omega arith; fit = tt }
 shaped (Some t) f = record { six = f.few_columns; few = f.few_rows; fit = f.each_row }
 
-get_or_none : (n i : ℕ) → get_or {A = Cell} (replicate n None) i None ≡ None
-get_or_none zero i = refl
-get_or_none (suc n) zero = refl
-get_or_none (suc n) (suc i) = get_or_none n i
+pub get_or_replicated : {X : Type 0} (n i : ℕ) (d : X) → get_or (replicate n d) i d ≡ d
+get_or_replicated zero i d = refl
+get_or_replicated (suc n) zero d = refl
+get_or_replicated (suc n) (suc i) d = get_or_replicated n i d
 
 get_or_absent : (cells : List Cell) (n i : ℕ) → get_or (cells ++ replicate n None) i None ≡ get_or cells i None
-get_or_absent [] n i = get_or_none n i
+get_or_absent [] n i = get_or_replicated n i None
 get_or_absent (x ∷ xs) n zero = refl
 get_or_absent (x ∷ xs) n (suc i) = get_or_absent xs n i
 

@@ -1,7 +1,7 @@
 -- Rows that lie one behind the other: reading them one by one, one more at the end, and what leaves them unchanged.
-use Rattle.std.proofs.Common.{◌≡◌, ℕ, zero, suc, ◌+◌, ◌-◌, ◌*◌, ◌<◌, ◌≤◌, Bool, cond, List, [], ◌∷◌, ◌++◌, map, length, get_or, take, drop, set, filter, sym, refl, ap, ◌∙◌, ap₂, suc-mul, zero-mul, add-one, arith, length-drop, length-take, drop-set-lt, below_more}
-use lib.Seq.{take-set-lt, take-set-le, drop-set-add, paste}
-use Rattle.std.proofs.lemmas.List.{drop-drop, take-take, drop-take, length-take-le, append_assoc, take_at, drop_at, map_push}
+use Rattle.std.proofs.Common.{◌≡◌, ℕ, zero, suc, ◌+◌, ◌-◌, ◌*◌, ◌<◌, ◌≤◌, Bool, cond, List, [], ◌∷◌, ◌++◌, length, take, drop, set, filter, sym, refl, ap, ◌∙◌, ap₂, suc-mul, zero-mul, add-one, arith, length-drop, length-take}
+use lib.Seq.{take-set-lt, drop-set-add, paste}
+use Rattle.std.proofs.lemmas.List.{drop-drop, take-take, drop-take, length-take-le, append_assoc, take_at, drop_at}
 use Rattle.std.proofs.lemmas.List.Edits.{drop-paste}
 use Rattle.std.proofs.lemmas.Nat.{mul-le}
 use Rattle.std.proofs.lemmas.List.Elements.{filter-append}
@@ -27,17 +27,6 @@ pub length_rows : (n w : ℕ) (cells : List Cell) → length (rows_in n w cells)
 length_rows zero w cells = refl
 length_rows (suc n) w cells = ap suc (length_rows n w (drop w cells))
 
--- row i of n
-pub get_d_rows : (n w : ℕ) (cells : List Cell) (i : ℕ) → i < n → get_or (rows_in n w cells) i [] ≡ row_in w cells i
-get_d_rows zero w cells i h = absurd (omega arith)
-get_d_rows (suc n) w cells zero h = sym (row_first w cells)
-get_d_rows (suc n) w cells (suc i) h = get_d_rows n w (drop w cells) i (omega arith) ∙ row_behind w i cells
-
-pub take_rows : (n w : ℕ) (cells : List Cell) (k : ℕ) → k ≤ n → take k (rows_in n w cells) ≡ rows_in k w cells
-take_rows n w cells zero h = refl
-take_rows zero w cells (suc k) h = absurd (omega arith)
-take_rows (suc n) w cells (suc k) h = ap (λ rs. take w cells ∷ rs) (take_rows n w (drop w cells) k (omega arith))
-
 more : (n w : ℕ) (cells : List Cell) → rows_in (suc n) w cells ≡ rows_in n w cells ++ (row_in w cells n ∷ [])
 more zero w cells = ap (λ r. r ∷ []) (sym (row_first w cells))
 more (suc n) w cells =
@@ -47,20 +36,10 @@ more (suc n) w cells =
 pub rows_more : (n w : ℕ) (cells : List Cell) → rows_in (n + 1) w cells ≡ rows_in n w cells ++ (row_in w cells n ∷ [])
 rows_more n w cells = ap (λ m. rows_in m w cells) (add-one n) ∙ more n w cells
 
-pub map_rows_more : {X : Type 0} (f : Row → X) (n w : ℕ) (cells : List Cell) → map f (rows_in (n + 1) w cells) ≡ map f (rows_in n w cells) ++ (f (row_in w cells n) ∷ [])
-map_rows_more f n w cells = ap (map f) (rows_more n w cells) ∙ map_push f (rows_in n w cells) (row_in w cells n)
-
 pub kept_rows_more : (p : Row → Bool) (n w : ℕ) (cells : List Cell) → filter p (rows_in (n + 1) w cells) ≡ filter p (rows_in n w cells) ++ cond (p (row_in w cells n)) (row_in w cells n ∷ []) []
 kept_rows_more p n w cells = ap (filter p) (rows_more n w cells) ∙ rw filter-append
 
 -- what is the same of each row is the same of all
-pub map_rows : {X : Type 0} (f g : Row → X) (n w : ℕ) (xs ys : List Cell) → ((k : ℕ) → k < n → f (row_in w xs k) ≡ g (row_in w ys k)) → map f (rows_in n w xs) ≡ map g (rows_in n w ys)
-map_rows f g zero w xs ys h = refl
-map_rows f g (suc n) w xs ys h =
-    ap₂ (λ r rs. r ∷ rs)
-    (ap f (sym (row_first w xs)) ∙ h 0 (omega arith) ∙ ap g (row_first w ys))
-    (map_rows f g n w (drop w xs) (drop w ys) (λ k kh. ap f (row_behind w k xs) ∙ h (suc k) (omega arith) ∙ ap g (sym (row_behind w k ys))))
-
 pub same_rows : (n w : ℕ) (xs ys : List Cell) → ((k : ℕ) → k < n → row_in w xs k ≡ row_in w ys k) → rows_in n w xs ≡ rows_in n w ys
 same_rows zero w xs ys h = refl
 same_rows (suc n) w xs ys h =
@@ -99,34 +78,6 @@ module _ (w n : ℕ) where
       let room : n * w ≤ length new = omega arith in
       rw (next, drop-paste new (n * w) s w room long, ← drop-drop w (n * w) new, ← drop-drop w (n * w) old, back)
 
--- new is old with f of each of the first i rows
-pub record RowsDone (f : Row → Row) (w : ℕ) (old new : List Cell) (i : ℕ) : Type 0 where
-  pub front : (k : ℕ) → k < i → row_in w new k ≡ f (row_in w old k)
-  pub back : drop (i * w) new ≡ drop (i * w) old
-
-row_set_same : (w i c : ℕ) (v : Cell) (cells : List Cell) → c < w → row_in w (set cells (i * w + c) v) i ≡ set (row_in w cells i) c v
-row_set_same w i c v cells h = rw (drop-set-add, take-set-lt)
-
-row_set_before : (w i c k : ℕ) (v : Cell) (cells : List Cell) → k < i → row_in w (set cells (i * w + c) v) k ≡ row_in w cells k
-row_set_before w i c k v cells h =
-    let far : k * w + w ≤ i * w = row_within k i w (i * w) h (omega arith) in
-    let at : i * w + c ≡ k * w + (i * w + c - k * w) = omega arith in
-    let past : w ≤ i * w + c - k * w = omega arith in
-    ap (λ (p : ℕ). take w (drop (k * w) (set cells p v))) at ∙ rw (drop-set-add, take-set-le)
-
-pub rows_done_none : (f : Row → Row) (w : ℕ) (xs : List Cell) → RowsDone f w xs xs 0
-rows_done_none f w xs = record { front = λ k h. absurd (omega arith); back = refl }
-
-pub rows_done_more : {f : Row → Row} {w : ℕ} {old new : List Cell} {i : ℕ} (c : ℕ) (v : Cell) → RowsDone f w old new i → c < w → f (row_in w old i) ≡ set (row_in w old i) c v → RowsDone f w old (set new (i * w + c) v) (i + 1)
-rows_done_more {f} {w} {old} {new} {i} c v d h e =
-    let here : row_in w new i ≡ row_in w old i = ap (take w) d.back in
-    let next = next_row i w in
-    let past : i * w + c < (i + 1) * w = omega arith in
-    record {
-      front = below_more _ _ (λ k kh. row_set_before w i c k v new kh ∙ d.front k kh) (row_set_same w i c v new h ∙ ap (λ r. set r c v) here ∙ sym e);
-      back = rw (drop-set-lt, next, ← drop-drop w (i * w) new, ← drop-drop w (i * w) old, d.back);
-    }
-
--- the front of a row that is as it was
-pub part_of_row : (w n i : ℕ) (old new : List Cell) {tuple : List Cell} → drop (i * w) new ≡ drop (i * w) old → n ≤ w → tuple ≡ take n (drop (i * w) new) → tuple ≡ take n (row_in w old i)
-part_of_row w n i old new back h t = t ∙ ap (take n) back ∙ sym (take-take n w (drop (i * w) old) h)
+-- a cell of a row is written
+pub row_set : (w i c : ℕ) (v : Cell) (cells : List Cell) → c < w → row_in w (set cells (i * w + c) v) i ≡ set (row_in w cells i) c v
+row_set w i c v cells h = rw (drop-set-add, take-set-lt)

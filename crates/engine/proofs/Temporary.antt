@@ -1,5 +1,6 @@
 -- A step on a region, as the state has it.
-use Rattle.std.proofs.Common.{◌≡◌, ℕ, zero, suc, ◌<◌, List, [], ◌∷◌, length, get_or, set, sym, refl, ap, ◌∙◌, arith}
+use Rattle.std.proofs.Common.{◌≡◌, ℕ, ◌<◌, List, [], length, get_or, set, sym, ap, ◌∙◌, arith}
+use Rattle.std.proofs.lemmas.List.{set-get_or}
 use Rattle.terms.specs.declared.cells.WorkCell.{WorkCell}
 use Rattle.terms.specs.Cells.{Cell, Row}
 use Rattle.sources.specs.Heads.{rows_in}
@@ -10,11 +11,6 @@ use Rattle.engine.specs.Rows.{values, groups_in}
 use Rattle.engine.specs.Regions.{inside, seen, end_of, SameApart, Laid, Within, region}
 use Rattle.engine.specs.Views.{held, view}
 use Rattle.engine.proofs.Regions.{seen_changed, seen_long, put-seen}
-
-set_get_d : {A : Type 0} (xs : List A) (i : ℕ) (d : A) → set xs i (get_or xs i d) ≡ xs
-set_get_d [] i d = refl
-set_get_d (x ∷ xs) zero d = refl
-set_get_d (x ∷ xs) (suc i) d = ap (λ ys. x ∷ ys) (set_get_d xs i d)
 
 abbrev pub with_kept-count : Counts → (b k : ℕ) → Counts
 with_kept-count counts b k = record { kept = set counts.kept b k; tuples = counts.tuples; written = counts.written }
@@ -50,6 +46,6 @@ module _ (layout : Layout) (counts : Counts) (rows tuples : List WorkCell) (w : 
       → SameApart (region layout.tuples b).start (end_of (region layout.tuples b)) (values tuples) (values after) → inside groups_in (region layout.tuples b) (get_or counts.tuples b 0) (values after) ≡ now
       → view layout w (held counts rows after result) n ≡ with_groups (view layout w (held counts rows tuples result) n) b now
   tuples_same after l b now n laid within h apart here =
-      let same : set counts.tuples b (get_or counts.tuples b 0) ≡ counts.tuples = set_get_d counts.tuples b 0 in
+      let same : set counts.tuples b (get_or counts.tuples b 0) ≡ counts.tuples = set-get_or counts.tuples b 0 in
       ap (λ (ns : List ℕ). view layout w (held (record { kept = counts.kept; tuples = ns; written = counts.written }) rows after result) n) (sym same)
       ∙ tuples_now after l b (get_or counts.tuples b 0) now n laid within h apart here

@@ -1,10 +1,11 @@
 -- The loop over a plan's steps.
-use Rattle.std.proofs.Common.{◌≡◌, ℕ, zero, suc, ◌+◌, ◌*◌, ◌%◌, ◌^◌, ◌<◌, ◌≤◌, Bool, true, false, not, ◌⊎◌, List, [], ◌∷◌, ◌++◌, length, get_or, take, drop, replicate, Ok, Err, fold, Result, sym, refl, ap, ◌∙◌, ap₂, inl, inr, suc-mul, arith, take-append-drop, length-take, take_all}
+use Rattle.std.proofs.Common.{◌≡◌, ℕ, zero, suc, ◌+◌, ◌*◌, ◌%◌, ◌^◌, ◌<◌, ◌≤◌, true, false, not, ◌⊎◌, List, [], ◌∷◌, ◌++◌, length, get_or, take, drop, replicate, Ok, Err, fold, Result, sym, refl, ap, ◌∙◌, ap₂, inl, inr, suc-mul, arith, take-append-drop, length-take, take_all}
 use mathlib.Core.Path.{fun_ext}
 use Rattle.std.specs.List.{flat_map}
+use Rattle.std.proofs.Math.Seq.{take-add}
 use Rattle.std.proofs.lemmas.List.{drop_all}
 use Rattle.std.proofs.lemmas.List.Sums.{fold_more}
-use Rattle.std.proofs.lemmas.Bool.{and_parts, cases_lt, true≢false}
+use Rattle.std.proofs.lemmas.Bool.{and_parts, cases_lt, not-true}
 use Rattle.terms.specs.declared.cells.WorkCell.{WorkCell}
 use Rattle.terms.specs.declared.faults.Fault.{Fault}
 use Rattle.terms.specs.Cells.{Cell}
@@ -26,22 +27,16 @@ use Rattle.engine.specs.Rows.{groups_in, values}
 use Rattle.engine.specs.Regions.{Within}
 use Rattle.engine.specs.Views.{held, view, fetches, left, stop_at, is_output, output_last, Counted, Ran}
 use Rattle.engine.proofs.Regions.{seen_none}
+use Rattle.engine.proofs.Restricting.{get_or_replicated}
 use Rattle.engine.proofs.RowsIn.{length_rows}
 
 -- Rows from the buffer's start.
-
-take_twice : {A : Type 0} (a b : ℕ) (xs : List A) → take a xs ++ take b (drop a xs) ≡ take (a + b) xs
-take_twice zero b xs = let e : b ≡ 0 + b = omega arith in ap (λ n. take n xs) e
-take_twice (suc a) b [] = take_all b [] (omega arith) ∙ sym (take_all (suc a + b) [] (omega arith))
-take_twice (suc a) b (x ∷ xs) =
-    let e : suc (a + b) ≡ suc a + b = omega arith in
-    ap (λ ys. x ∷ ys) (take_twice a b xs) ∙ ap (λ n. take n (x ∷ xs)) e
 
 joined_rows : (k w : ℕ) (cells : List Cell) → flat_map (λ row. row) (rows_in k w cells) ≡ take (k * w) cells
 joined_rows zero w cells = let e : 0 ≡ 0 * w = omega arith in ap (λ n. take n cells) e
 joined_rows (suc k) w cells =
     let e : w + k * w ≡ suc k * w = omega (arith, suc-mul k w) in
-    ap (λ ys. take w cells ++ ys) (joined_rows k w (drop w cells)) ∙ take_twice w (k * w) cells ∙ ap (λ n. take n cells) e
+    ap (λ ys. take w cells ++ ys) (joined_rows k w (drop w cells)) ∙ sym (take-add w (k * w) cells) ∙ ap (λ n. take n cells) e
 
 -- the first k rows were written, and what is behind them is as it was
 written_over : (k w : ℕ) (old new : List Cell) → length new ≡ length old → drop (k * w) new ≡ drop (k * w) old → new ≡ over_start (rows_in k w new) old
@@ -61,11 +56,6 @@ abbrev pub reads_in : Going → ℕ
 reads_in (on s) = s.reads
 reads_in (stopped x) = x.reads
 
-zeros : (k i : ℕ) → get_or {A = ℕ} (replicate k 0) i 0 ≡ 0
-zeros zero i = refl
-zeros (suc k) zero = refl
-zeros (suc k) (suc i) = zeros k i
-
 within_none : (gs : List Region) (k : ℕ) → length gs ≡ k → Within gs (replicate k 0)
 within_none [] zero e = tt
 within_none [] (suc k) e = absurd (omega arith)
@@ -81,18 +71,14 @@ counted_none layout a b = record { kept = within_none layout.kept 4 a; tuples = 
 pub view_none : (layout : Layout) (rows tuples : List WorkCell) (w : ℕ) (result : List Cell) → view layout w (held no_counts rows tuples result) 0 ≡ nothing
 view_none layout rows tuples w result =
     ap₂ (λ k g. record { kept = k; groups = g; written = []; reads = 0 })
-    (fun_ext (seen_none rows_in layout.kept (replicate 4 0) (values rows) (λ w xs. refl) (zeros 4)))
-    (fun_ext (seen_none groups_in layout.tuples (replicate 4 0) (values tuples) (λ w xs. refl) (zeros 4)))
+    (fun_ext (seen_none rows_in layout.kept (replicate 4 0) (values rows) (λ w xs. refl) (λ i. get_or_replicated 4 i 0)))
+    (fun_ext (seen_none groups_in layout.tuples (replicate 4 0) (values tuples) (λ w xs. refl) (λ i. get_or_replicated 4 i 0)))
 
 -- only the last step may be OUTPUT
 pub not_output : (steps : List Step) (i : ℕ) (d : Step) → output_last steps ≡ true → suc i < length steps → is_output (get_or steps i d) ≡ false
 not_output [] i d e h = absurd (omega arith)
 not_output (s ∷ []) i d e h = absurd (omega arith)
-not_output (s ∷ (t ∷ ts)) zero d e h = no_no (is_output s) (and_parts (not (is_output s)) (output_last (t ∷ ts)) e).0
-  where
-    no_no : (b : Bool) → not b ≡ true → b ≡ false
-    no_no true e = absurd (true≢false (sym e))
-    no_no false e = refl
+not_output (s ∷ (t ∷ ts)) zero d e h = not-true (is_output s) (and_parts (not (is_output s)) (output_last (t ∷ ts)) e).0
 not_output (s ∷ (t ∷ ts)) (suc i) d e h = not_output (t ∷ ts) i d (and_parts (not (is_output s)) (output_last (t ∷ ts)) e).1 (omega arith)
 
 -- One step after the other.

@@ -1,4 +1,5 @@
 pub mod Rows
+pub mod Iterators
 pub mod Restricting
 pub mod Grouping
 pub mod Regions

@@ -1,6 +1,6 @@
 // Where the temporaries of a plan lie in work memory.
 
-// Room for so many rows of so many cells.
+// So many rows of so many cells, or room for them.
 #[derive(Clone, Copy)]
 pub struct Extent {
     pub rows: usize,
@@ -23,7 +23,8 @@ pub struct Layout {
     pub tuples: [Region; 4],
 }
 
-// How many rows and tuples the regions hold, and how many rows were written.
+// How many rows and tuples the regions hold, and how many rows were written. Not beside each region: a plan's run leaves the
+// regions as they are, so what a step changes is told by these numbers alone.
 #[derive(Clone, Copy)]
 pub struct Counts {
     pub kept: [usize; 4],

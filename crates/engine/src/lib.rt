@@ -3,8 +3,11 @@
 
 mod filter;
 mod group;
+mod groups;
 mod layout;
 mod output;
 mod project;
 mod restrict;
 mod rows;
+#[cfg(test)]
+mod tests;

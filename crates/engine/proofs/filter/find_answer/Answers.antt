@@ -1,28 +1,16 @@
-use Rattle.std.proofs.Common.{◌+◌, length, sym, ◌∙◌, arith}
-use Rattle.meaning.specs.Running.{tuple_of}
+use Rattle.std.proofs.Common.{◌∙◌, ap, refl, rules, tests}
+use Rattle.std.proofs.lemmas.Iterator.Consumers.{YieldsList-from_first}
+use Rattle.std.proofs.lemmas.Iterator.Search.{find_from_yields_List}
+use Rattle.meaning.specs.Rows.{alike}
+use Rattle.meaning.specs.Running.{Group, tuple_of}
 use Rattle.engine.specs.Rows.{values}
-use Rattle.engine.proofs.RowsIn.{row_within, next_row}
-use Rattle.engine.proofs.Values.{values_at}
-use Rattle.engine.proofs.Filtering.{answer_here, answer_on, answer_none}
+use Rattle.engine.specs.Iterators.{group_of, groups_left}
+use Rattle.engine.proofs.Finding.{answer_in, found_answer}
 use Rattle.engine.proofs.filter.find_answer.Goals as goal
-
-pub row_at-key-requires : goal.row_at-key-requires
-row_at-key-requires c =
-    let w = length c.args.joins.now + 1 in
-    omega (arith, row_within c.loop-t.t c.args.tuples w _ c.loop-t-test.true c.requires.keys, next_row c.loop-t.t w)
-
-pub returns-then-same_tuple : goal.returns-then-same_tuple
-returns-then-same_tuple c =
-    let n = length c.args.joins.now in
-    let key = c.row_at-key.result.now in
-    record { value = sym (values_at key n (omega arith)) ∙ answer_here n c.args.tuples c.loop-t.t (values c.args.keys.now) (tuple_of c.args.joins.now (values c.args.row.now)) c.loop-t-test.true c.loop-t.invariant c.row_at-key.ensures.value c.part.ensures.value c.if-same_tuple.ensures.value }
-
-pub loop-t-preserved : goal.loop-t-preserved
-loop-t-preserved c =
-    let n = length c.args.joins.now in
-    answer_on n c.args.tuples c.loop-t.t (values c.args.keys.now) (tuple_of c.args.joins.now (values c.args.row.now)) c.loop-t-test.true c.loop-t.invariant c.row_at-key.ensures.value c.part.ensures.value c.if-same_tuple.ensures.value
 
 pub returns : goal.returns
 returns c =
-    let n = length c.args.joins.now in
-    record { value = answer_none n c.args.tuples c.loop-t.t (values c.args.keys.now) (tuple_of c.args.joins.now (values c.args.row.now)) c.loop-t-test.false c.loop-t.invariant }
+    let p = tuple_of c.args.joins.now (values c.args.row.now) in
+    let groups = groups_left c.args.groups in
+    let found = find_from_yields_List (λ (g : Group). alike p g.tuple) c.find.new.self _ c.find.result c.find.ensures.ran (YieldsList-from_first group_of groups_left groups refl) (λ x b q k. search (rules, tests)) in
+    record { value = search rules ∙ ap answer_in found ∙ found_answer p groups }

@@ -1,23 +1,18 @@
-use Rattle.std.proofs.Common.{None, sym, ◌∙◌, ap₂, arith}
-use Rattle.terms.specs.Comparisons.{holds}
+use Rattle.std.proofs.Common.{◌∙◌, rules, tests}
+use Rattle.std.proofs.lemmas.Iterator.{YieldsList-from_slice, YieldsList-from_zip}
+use Rattle.std.proofs.lemmas.Iterator.Search.{all_from_yields_List}
+use Rattle.terms.specs.declared.cells.WorkCell.{WorkCell}
+use Rattle.queries.specs.declared.parts.Link.{Link}
+use Rattle.meaning.specs.Running.{join_true}
 use Rattle.engine.specs.Rows.{values}
-use Rattle.engine.proofs.Loops.{joins_stop, joins_go, joins_end}
-use Rattle.engine.proofs.Values.{length-values, values_at}
+use Rattle.engine.proofs.Chains.{joins_true_is}
 use Rattle.engine.proofs.group.joins_true.Goals as goal
 
-pub returns-then-not-holds : goal.returns-then-not-holds
-returns-then-not-holds c =
-    let tuple = c.args.tuple.now in
-    record {
-      value = joins_stop c.args.joins.now (values tuple) (values c.args.row.now) c.loop-i.i c.loop-i.invariant _ None c.loop-i-test.true (rw length-values (omega (arith, c.requires.tuple)))
-          (ap₂ (holds _) (sym c.cell_at.ensures.value) (values_at tuple c.loop-i.i (omega (arith, c.requires.tuple))) ∙ sym c.if-not-holds.ensures);
-    }
-
-pub loop-i-preserved : goal.loop-i-preserved
-loop-i-preserved c =
-    let tuple = c.args.tuple.now in
-    joins_go c.args.joins.now (values tuple) (values c.args.row.now) c.loop-i.i c.loop-i.invariant _ None c.loop-i-test.true (rw length-values (omega (arith, c.requires.tuple)))
-    (ap₂ (holds _) (sym c.cell_at.ensures.value) (values_at tuple c.loop-i.i (omega (arith, c.requires.tuple))) ∙ sym c.if-not-holds.ensures)
-
 pub returns : goal.returns
-returns c = record { value = joins_end c.args.joins.now (values c.args.tuple.now) (values c.args.row.now) c.loop-i.i c.loop-i.invariant c.loop-i-test.false }
+returns c =
+    let joins = c.args.joins.now in
+    let tuple = c.args.tuple.now in
+    let row = values c.args.row.now in
+    record {
+      value = all_from_yields_List (λ (p : Link × WorkCell). join_true row p.0 p.1.value) c.all.new.self _ _ c.all.ensures.ran (YieldsList-from_zip (YieldsList-from_slice joins cc) (YieldsList-from_slice tuple cc)) (λ x b q k. search (rules, tests)) ∙ joins_true_is joins tuple row c.requires.tuple;
+    }

@@ -1,15 +1,11 @@
 use Rattle.std.proofs.Common.{None, sym, ◌∙◌, arith}
 use Rattle.std.proofs.lemmas.List.{get_or-map, length-map}
-use Rattle.std.proofs.lemmas.List.Edits.{paste_none}
 use Rattle.queries.specs.declared.parts.Link.{Link}
 use Rattle.meaning.specs.Rows.{cell}
 use Rattle.meaning.specs.Running.{tuple_of}
 use Rattle.engine.specs.Rows.{values}
 use Rattle.engine.proofs.Values.{stored_more}
 use Rattle.engine.proofs.project.store_tuple.Goals as goal
-
-pub loop-i-init : goal.loop-i-init
-loop-i-init c = paste_none (values c.args.keys.now) c.args.at (tuple_of c.args.joins.now (values c.args.row.now))
 
 pub loop-i-preserved : goal.loop-i-preserved
 loop-i-preserved c =

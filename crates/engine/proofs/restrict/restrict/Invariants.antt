@@ -8,4 +8,8 @@ abbrev pub invariant-loop-i : goal.invariant-loop-i
 invariant-loop-i g l =
     let s = g.S.Source in
     let was = l.initial.source in
-    (s.tables l.source ≡ s.tables was) × (s.reads l.source ≡ (s.reads was + l.i) % 2 ^ 64) × Restricted l.width l.tests (rows_of (s.tables was l.table)) (values l.cells) l.kept l.i
+    record {
+      tables : s.tables l.source ≡ s.tables was;
+      meter : s.reads l.source ≡ (s.reads was + l.i) % 2 ^ 64;
+      so : Restricted l.extent.width l.tests (rows_of (s.tables was l.table)) (values l.cells) l.kept l.i;
+    }

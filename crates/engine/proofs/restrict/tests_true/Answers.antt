@@ -1,15 +1,12 @@
-use Rattle.std.proofs.Common.{sym, ◌∙◌}
-use Rattle.std.proofs.lemmas.List.{at_drop_all}
-use Rattle.terms.specs.Cells.{every}
-use Rattle.terms.proofs.Loops.{every_more}
-use Rattle.engine.proofs.Loops.{every_stops}
+use Rattle.std.proofs.Common.{◌∙◌, rules, tests}
+use Rattle.std.proofs.lemmas.Iterator.{YieldsList-from_slice}
+use Rattle.std.proofs.lemmas.Iterator.Search.{all_from_yields_List}
+use Rattle.meaning.specs.Queries.{test_true}
+use Rattle.engine.specs.Rows.{values}
+use Rattle.engine.proofs.Chains.{every_is}
 use Rattle.engine.proofs.restrict.tests_true.Goals as goal
 
-pub returns-then-not-test_true : goal.returns-then-not-test_true
-returns-then-not-test_true c = record { value = every_stops _ c.args.tests.now c.loop-test.test-index _ c.loop-test-test.true (sym c.if-not-test_true.ensures.value) ∙ c.loop-test.invariant }
-
-pub loop-test-preserved : goal.loop-test-preserved
-loop-test-preserved c = every_more _ c.args.tests.now c.loop-test.test-index _ c.loop-test-test.true (sym c.if-not-test_true.ensures.value) ∙ c.loop-test.invariant
-
 pub returns : goal.returns
-returns c = record { value = sym (at_drop_all (every _) c.args.tests.now c.loop-test.test-index c.loop-test-test.false) ∙ c.loop-test.invariant }
+returns c = record {
+  value = all_from_yields_List (λ t. test_true t (values c.args.row.now)) _ _ _ c.all.ensures.ran (YieldsList-from_slice c.args.tests.now cc) (λ x b q k. search (rules, tests)) ∙ every_is _ c.args.tests.now;
+}
