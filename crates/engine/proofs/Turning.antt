@@ -18,7 +18,7 @@ use Rattle.meaning.specs.Plans.{Plan, plan}
 use Rattle.meaning.specs.Running.{State, nothing}
 use Rattle.meaning.specs.Reading.{Stop, Going, on, stopped, go, outcome, ran, answers}
 use Rattle.meaning.specs.Endings.{unreadable, over_start, read_to, ending_answer, reads_after, result_after}
-use Rattle.meaning.proofs.Lists.{folded_append}
+use Rattle.std.proofs.lemmas.List.Sums.{fold-append}
 use Rattle.meaning.proofs.Stopping.{stays, flat_is_nested}
 use Rattle.engine.specs.declared.layout.Region.{Region}
 use Rattle.engine.specs.declared.layout.Layout.{Layout}
@@ -134,7 +134,7 @@ module _ {Total : Type 0} (house : Meaning Total) (tables : Tables) (p : Plan) w
         stopped_is x e =
             sym (ap outcome (stays tables house p (drop (i + 1) steps) x))
             ∙ ap (λ g. outcome (fold (go p tables house) g (drop (i + 1) steps))) e
-            ∙ ap outcome (sym (folded_append (go p tables house) (on nothing) (take (i + 1) steps) (drop (i + 1) steps)))
+            ∙ ap outcome (sym (fold-append (go p tables house) (on nothing) (take (i + 1) steps) (drop (i + 1) steps)))
             ∙ ap (λ ss. outcome (fold (go p tables house) (on nothing) ss)) (take-append-drop (i + 1) steps)
             ∙ ap (λ r. ran r tables house) is_plan
             ∙ flat_is_nested tables house q

@@ -1,35 +1,28 @@
 -- Laws of comparisons and of aggregates.
-use Rattle.std.proofs.Common.{◌≡◌, ℕ, suc, ◌+◌, ◌-◌, ◌^◌, ◌≤◌, true, not, eqb, List, [], ◌∷◌, map, length, ℤ, pos, negsuc, Some, None, fold, refl, ap, ◌∙◌, arith}
+use Rattle.std.proofs.Common.{◌≡◌, ℕ, suc, ◌+◌, ◌-◌, ◌^◌, ◌≤◌, true, not, List, [], ◌∷◌, map, length, ℤ, pos, negsuc, Some, None, fold, refl, ap, ◌∙◌, arith}
 use Rattle.std.proofs.lemmas.Bool.{le-leb, ne_eqb}
 use Rattle.std.proofs.lemmas.Bool.Decides.{nat_tests}
 use Rattle.terms.specs.declared.comparisons.Comparison.{Comparison}
-use Rattle.terms.specs.declared.comparisons.Comparison.TheVariants.{Equal, NotEqual, Less, LessOrEqual, Greater, GreaterOrEqual}
+use Rattle.terms.specs.declared.comparisons.Comparison.TheVariants.{Equal, NotEqual, Less}
 use Rattle.terms.specs.Cells.{Cell, Row, same_number}
 use Rattle.terms.specs.Comparisons.{holds, ordered, mirrored}
 use Rattle.queries.specs.declared.aggregates.Function.{Function}
-use Rattle.queries.specs.declared.aggregates.Function.TheVariants.{Count, Sum, Min, Max, House}
+use Rattle.queries.specs.declared.aggregates.Function.TheVariants.{House}
 use Rattle.queries.specs.declared.aggregates.Aggregate.{Aggregate}
 use Rattle.queries.specs.declared.aggregates.Aggregate.TheVariants.{CountRows, Of}
 use Rattle.meaning.specs.Rows.{some}
 use Rattle.meaning.specs.Aggregates.{Meaning, answered, capped, counted, number_of_rows, aggregated}
 use Rattle.meaning.specs.Running.{brought, joined_cells, answer_over}
 
-eqb_sym : (a b : ℕ) → eqb a b ≡ eqb b a
-eqb_sym a b = grind (arith, nat_tests)
-
 same_number_sym : (x y : ℤ) → same_number x y ≡ same_number y x
-same_number_sym (pos a) (pos b) = eqb_sym a b
-same_number_sym (pos a) (negsuc b) = refl
-same_number_sym (negsuc a) (pos b) = refl
-same_number_sym (negsuc a) (negsuc b) = eqb_sym a b
+same_number_sym (pos a) (pos b) = grind (arith, nat_tests)
+same_number_sym (negsuc a) (negsuc b) = grind (arith, nat_tests)
+same_number_sym x y = refl
 
 ordered-mirrored : (c : Comparison) (x y : ℤ) → ordered (mirrored c) y x ≡ ordered c x y
 ordered-mirrored Equal x y = same_number_sym y x
 ordered-mirrored NotEqual x y = ap not (same_number_sym y x)
-ordered-mirrored Less x y = refl
-ordered-mirrored LessOrEqual x y = refl
-ordered-mirrored Greater x y = refl
-ordered-mirrored GreaterOrEqual x y = refl
+ordered-mirrored other x y = refl
 
 -- a comparison with its sides exchanged
 pub holds-mirrored : (c : Comparison) (x y : Cell) → holds (mirrored c) y x ≡ holds c x y
@@ -54,11 +47,8 @@ marked n (r ∷ rs) h = marked (capped (n + 1)) rs (omega arith) ∙ ap pos (ome
 
 -- the one absent row brings what no row brings
 absent_row : {Total : Type 0} (house : Meaning Total) (f : Function) → answered house f (None ∷ []) ≡ answered house f []
-absent_row house Count = refl
-absent_row house Sum = refl
-absent_row house Min = refl
-absent_row house Max = refl
 absent_row house House = ap house.answer (house.absent house.start)
+absent_row house other = refl
 
 -- what GROUP works out over the joined rows is the aggregate over them
 pub group_is_aggregate : {Total : Type 0} (house : Meaning Total) (a : Aggregate) (rows : List Row) → answer_over house a (joined_cells a rows) ≡ aggregated house a rows

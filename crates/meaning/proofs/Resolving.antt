@@ -1,6 +1,7 @@
 -- The steps of a query's plan, with what they find of their blocks put in.
-use Rattle.std.proofs.Common.{◌≡◌, ℕ, suc, List, [], ◌∷◌, ◌++◌, map, length, get_or, sym, refl, ap, ◌∙◌, append_assoc, arith}
+use Rattle.std.proofs.Common.{◌≡◌, ℕ, suc, ◌-◌, List, [], ◌∷◌, ◌++◌, map, length, get_or, sym, refl, ap, ◌∙◌, append_assoc, arith}
 use Rattle.std.proofs.lemmas.List.{get_or_at, map-append, length-map, length_push}
+use Rattle.std.proofs.lemmas.List.Sums.{fold-append}
 use Rattle.queries.specs.declared.steps.Step.TheVariants.{Restrict}
 use Rattle.queries.specs.declared.parts.Link.{Link}
 use Rattle.meaning.specs.Rows.{Contents}
@@ -8,42 +9,44 @@ use Rattle.meaning.specs.Aggregates.{Meaning}
 use Rattle.meaning.specs.Queries.{Query}
 use Rattle.meaning.specs.Plans.{Flat, PlanBlock, Plan, translated, inner_blocks, unnest, unnests, plan, table_of, tests_of, joins_of}
 use Rattle.meaning.specs.Running.{State, restrict, project, group, filter, take_step, take_steps}
-use Rattle.meaning.proofs.Lists.{folded_append}
+use Rattle.meaning.specs.Checks.{parent_of}
 use Rattle.meaning.proofs.Unnesting.{unnested}
 
--- these translated blocks stand in the plan, numbered from b
+-- these translated blocks stand in the plan, numbered from b, each inside the block before it
 abbrev pub Placed : Plan → ℕ → List Flat → Type 0
 Placed p b [] = Unit {0}
-Placed p b (f ∷ fs) = (table_of p b ≡ f.table) × (tests_of p b ≡ f.tests) × (joins_of p b ≡ f.joins) × Placed p (suc b) fs
+Placed p b (f ∷ fs) = (table_of p b ≡ f.table) × (tests_of p b ≡ f.tests) × (joins_of p b ≡ f.joins) × (parent_of p b ≡ b - 1) × Placed p (suc b) fs
 
 -- what stands at a place of a list
 pub at : {X Y : Type 0} (g : X → Y) (front : List X) (x : X) (back : List X) (d : Y) (n : ℕ) → length front ≡ n → get_or (map g (front ++ (x ∷ back))) n d ≡ g x
 at g front x back d n e = ap (λ l. get_or l n d) (map-append g front (x ∷ back)) ∙ get_or_at (map g front) (g x) (map g back) d n (length-map front g ∙ e)
 
-placed : (p : Plan) (fs : List Flat) (parent b : ℕ) (front : List PlanBlock) → length front ≡ b → p.blocks ≡ front ++ inner_blocks parent fs → Placed p b fs
-placed p [] parent b front e h = tt
-placed p (f ∷ fs) parent b front e h =
-    let x : PlanBlock = record { table = f.table; tests = f.tests; joins = f.joins; parent = parent } in
-    let back : List PlanBlock = inner_blocks (suc parent) fs in (
+placed : (p : Plan) (fs : List Flat) (c : ℕ) (front : List PlanBlock) → length front ≡ suc c → p.blocks ≡ front ++ inner_blocks c fs → Placed p (suc c) fs
+placed p [] c front e h = tt
+placed p (f ∷ fs) c front e h =
+    let b : ℕ = suc c in
+    let x : PlanBlock = record { table = f.table; tests = f.tests; joins = f.joins; parent = c } in
+    let back : List PlanBlock = inner_blocks b fs in (
       ap (λ bs. get_or (map (λ y. y.table) bs) b 0) h ∙ at (λ y. y.table) front x back 0 b e,
       ap (λ bs. get_or (map (λ y. y.tests) bs) b []) h ∙ at (λ y. y.tests) front x back [] b e,
       ap (λ bs. get_or (map (λ y. y.joins) bs) b []) h ∙ at (λ y. y.joins) front x back [] b e,
-      placed p fs (suc parent) (suc b) (front ++ (x ∷ [])) (length_push front x ∙ omega arith) (h ∙ sym (append_assoc front (x ∷ []) back)),
+      ap (λ bs. get_or (map (λ y. y.parent) bs) b 0) h ∙ at (λ y. y.parent) front x back 0 b e ∙ omega arith,
+      placed p fs b (front ++ (x ∷ [])) (length_push front x ∙ omega arith) (h ∙ sym (append_assoc front (x ∷ []) back)),
     )
 
 pub plan_placed : (q : Query) → Placed (plan q) 1 (map translated q.inner)
-plan_placed q = placed (plan q) (map translated q.inner) 0 1 (record { table = q.table; tests = q.tests; joins = []; parent = 0 } ∷ []) refl refl
+plan_placed q = placed (plan q) (map translated q.inner) 0 (record { table = q.table; tests = q.tests; joins = []; parent = 0 } ∷ []) refl refl
 
 module _ {Total : Type 0} (p : Plan) (db : Contents) (house : Meaning Total) where
   -- RESTRICT for block b, with its tests and its table
   pub restrict_is : (b : ℕ) (f : Flat) (s : State) → table_of p b ≡ f.table → tests_of p b ≡ f.tests → take_step p db house s (Restrict b b) ≡ restrict s b f.tests (db f.table)
-  restrict_is b f s t e = ap (λ tests. restrict s b tests (db (table_of p b))) e ∙ ap (λ n. restrict s b f.tests (db n)) t
+  restrict_is b f s t e = rw (t, e)
 
   pub unnests_are : (fs : List Flat) (c : ℕ) (s : State) → Placed p (suc c) fs → take_steps p db house s (unnests c fs) ≡ unnested db house c fs s
   unnests_are [] c s places = refl
   unnests_are (f ∷ fs) c s places =
       let before : State = unnested db house (suc c) fs s in
       let by : List Link → State = λ j. filter (group house (project before c (suc c) j) (suc c) (suc c) j f.aggregate) c (suc c) j f.operand f.comparison in
-      folded_append (take_step p db house) s (unnests (suc c) fs) (unnest (suc c) c f)
-      ∙ ap (λ t. take_steps p db house t (unnest (suc c) c f)) (unnests_are fs (suc c) s places.3)
+      fold-append (take_step p db house) s (unnests (suc c) fs) (unnest (suc c) c f)
+      ∙ ap (λ t. take_steps p db house t (unnest (suc c) c f)) (unnests_are fs (suc c) s places.4)
       ∙ ap by places.2

@@ -1,12 +1,12 @@
 -- Running over stored tables: what is read, where it stops, and the theorem.
 use Rattle.std.proofs.Common.{◌≡◌, ℕ, suc, ◌+◌, List, [], ◌∷◌, ◌++◌, map, length, Some, None, Ok, fold, sum_by, Option, sym, refl, ap, ◌∙◌, ap₂, append_assoc, arith}
 use Rattle.std.specs.Option.{option_map}
-use Rattle.std.proofs.lemmas.List.Sums.{sum_by-cons, sum_by-append}
+use Rattle.std.proofs.lemmas.List.Sums.{fold-append, sum_by-cons, sum_by-append}
 use Rattle.terms.specs.declared.comparisons.Comparison.TheVariants.{Equal}
 use Rattle.terms.specs.Tables.{Stored, Tables}
 use Rattle.queries.specs.declared.aggregates.Aggregate.TheVariants.{CountRows}
 use Rattle.queries.specs.declared.nests.Nest.{Nest}
-use Rattle.queries.specs.declared.nests.Nest.TheVariants.{Aggregated, In, Exists, NotExists, Any, All}
+use Rattle.queries.specs.declared.nests.Nest.TheVariants.{Exists}
 use Rattle.queries.specs.declared.steps.Operand.TheVariants.{Zero}
 use Rattle.queries.specs.declared.steps.Step.{Step}
 use Rattle.queries.specs.declared.steps.Step.TheVariants.{Restrict, Output}
@@ -16,7 +16,6 @@ use Rattle.meaning.specs.Queries.{Inner, Query, nested}
 use Rattle.meaning.specs.Plans.{Flat, Plan, translated, translated_as, restricts, unnest, unnests, plan, table_of}
 use Rattle.meaning.specs.Running.{State, nothing, restrict, output, take_step, take_steps}
 use Rattle.meaning.specs.Reading.{stored, readable, contents, first_unreadable, Stop, Visit, inner_visits, visits, met, first_met, row_counts, unless, answers, Going, on, stopped, unless_met, go, outcome, ran}
-use Rattle.meaning.proofs.Lists.{folded_append}
 use Rattle.meaning.proofs.Unnesting.{restricted, unnested, all_restricted, all_unnested, writes_nested, unnested_reads}
 use Rattle.meaning.proofs.Resolving.{Placed, plan_placed, restrict_is, unnests_are}
 
@@ -41,12 +40,8 @@ flat_visits b [] = []
 flat_visits b (f ∷ fs) = flat_visits (suc b) fs ++ (record { block = b; table = f.table } ∷ [])
 
 pub same_table : (b : Inner) (n : Nest) → (translated_as b n).table ≡ b.table
-same_table b (Aggregated operand comparison aggregate) = refl
-same_table b (In operand inner) = refl
 same_table b Exists = refl
-same_table b NotExists = refl
-same_table b (Any operand comparison inner) = refl
-same_table b (All operand comparison inner) = refl
+same_table b other = refl
 
 same-visits : (is : List Inner) (b : ℕ) → flat_visits b (map translated is) ≡ inner_visits b is
 same-visits [] b = refl
@@ -78,11 +73,7 @@ module _ (tables : Tables) where
   unmet (Some x) later h = (cc, cc)
 
   all_readable : (v : Visit) (n : ℕ) → last-met v n ≡ None → first_unreadable (stored tables v.table) ≡ None
-  all_readable v n h = go (first_unreadable (stored tables v.table)) h
-    where
-      go : (o : Option ℕ) → met v n o None ≡ None → o ≡ None
-      go None h = refl
-      go (Some i) h = cc
+  all_readable v n h = grind arith
 
   -- where no unreadable row is met every stored row is read
   restricted_reads : {Total : Type 0} (house : Meaning Total) (fs : List Flat) (b : ℕ) (s : State) → first_met tables (flat_visits b fs) s.reads ≡ None → (restricted (contents tables) house b fs s).reads ≡ s.reads + sum_by rows_at (flat_visits b fs)
@@ -126,8 +117,8 @@ module _ (tables : Tables) where
         let v : Visit = record { block = b; table = f.table } in
         let vs : List Visit = flat_visits (suc b) fs in
         let before : State = restricted db house (suc b) fs s in
-        folded_append (go p tables house) (on s) (restricts (suc b) fs) (Restrict b b ∷ [])
-        ∙ ap (λ g. go p tables house g (Restrict b b)) (restricts-go fs (suc b) s places.3)
+        fold-append (go p tables house) (on s) (restricts (suc b) fs) (Restrict b b ∷ [])
+        ∙ ap (λ g. go p tables house g (Restrict b b)) (restricts-go fs (suc b) s places.4)
         ∙ next (first_met tables vs s.reads) before (restrict before b f.tests (db f.table)) (last-met v (s.reads + sum_by rows_at vs))
         (λ none. one_restrict b f before _ (restricted_reads house fs (suc b) s none) places.0 (restrict_is p db house b f before places.0 places.1))
         ∙ ap (λ m. carried m (restricted db house b (f ∷ fs) s)) (sym (met-push vs v s.reads))
@@ -139,9 +130,9 @@ module _ (tables : Tables) where
     unnests-go : (fs : List Flat) (c : ℕ) (s : State) → fold (go p tables house) (on s) (unnests c fs) ≡ on (take_steps p db house s (unnests c fs))
     unnests-go [] c s = refl
     unnests-go (f ∷ fs) c s =
-        folded_append (go p tables house) (on s) (unnests (suc c) fs) (unnest (suc c) c f)
+        fold-append (go p tables house) (on s) (unnests (suc c) fs) (unnest (suc c) c f)
         ∙ ap (λ g. fold (go p tables house) g (unnest (suc c) c f)) (unnests-go fs (suc c) s)
-        ∙ ap on (sym (folded_append (take_step p db house) s (unnests (suc c) fs) (unnest (suc c) c f)))
+        ∙ ap on (sym (fold-append (take_step p db house) s (unnests (suc c) fs) (unnest (suc c) c f)))
 
 module _ {Total : Type 0} (tables : Tables) (house : Meaning Total) (q : Query) where
   abbrev flats : List Flat
@@ -163,7 +154,7 @@ module _ {Total : Type 0} (tables : Tables) (house : Meaning Total) (q : Query) 
   -- the steps after RESTRICT
   rest : (s : State) → fold (go (plan q) tables house) (on s) last ≡ on (output (unnested (contents tables) house 0 flats s) 0 q.outputs)
   rest s =
-      folded_append (go (plan q) tables house) (on s) (unnests 0 flats) (Output 0 ∷ [])
+      fold-append (go (plan q) tables house) (on s) (unnests 0 flats) (Output 0 ∷ [])
       ∙ ap (λ g. fold (go (plan q) tables house) g (Output 0 ∷ [])) (unnests-go tables house (plan q) flats 0 s)
       ∙ ap (λ t. on (output t 0 q.outputs)) (unnests_are (plan q) (contents tables) house flats 0 s (plan_placed q))
 
@@ -186,8 +177,8 @@ module _ {Total : Type 0} (tables : Tables) (house : Meaning Total) (q : Query) 
       let first : Going = fold (go (plan q) tables house) (on nothing) (restricts 0 (outer ∷ flats)) in
       let m : Option Stop = first_met tables (visits q) 0 in
       ap (λ steps. outcome (fold (go (plan q) tables house) (on nothing) steps)) steps_split
-      ∙ ap outcome (folded_append (go (plan q) tables house) (on nothing) (restricts 0 (outer ∷ flats)) last)
+      ∙ ap outcome (fold-append (go (plan q) tables house) (on nothing) (restricts 0 (outer ∷ flats)) last)
       ∙ ap (λ g. outcome (fold (go (plan q) tables house) g last))
-      (restricts-go tables house (plan q) (outer ∷ flats) 0 nothing (refl, refl, refl, plan_placed q)
+      (restricts-go tables house (plan q) (outer ∷ flats) 0 nothing (refl, refl, refl, refl, plan_placed q)
       ∙ ap (λ vs. carried tables house (plan q) (first_met tables vs 0) (all_restricted (contents tables) house q)) visits_are)
       ∙ ends m refl

@@ -1,6 +1,9 @@
 -- The nested tests after translation judge each row as the query's do.
 use Rattle.std.proofs.Common.{◌≡◌, ℕ, Bool, true, ◌&&◌, List, [], ◌∷◌, ◌++◌, map, filter, sym, refl, ap, ◌∙◌}
 use mathlib.Core.Path.{fun_ext}
+use Rattle.std.proofs.Math.Bool.{and_assoc, and-true}
+use Rattle.std.proofs.lemmas.List.Elements.{filter_agree}
+use Rattle.std.proofs.lemmas.List.Folds.{list_all-append}
 use Rattle.terms.specs.declared.comparisons.Comparison.{Comparison}
 use Rattle.terms.specs.declared.comparisons.Comparison.TheVariants.{Equal, Less}
 use Rattle.terms.specs.Cells.{Row, every}
@@ -19,7 +22,7 @@ use Rattle.meaning.specs.Aggregates.{Meaning, aggregated}
 use Rattle.meaning.specs.Queries.{Inner, tests_true, link_true, links_true, nest_true, judged}
 use Rattle.meaning.specs.Plans.{Flat, flat, flat_any, translated, translated_as}
 use Rattle.meaning.specs.Running.{tuple_of, join_true, joins_true, operand_of}
-use Rattle.meaning.proofs.Lists.{and_true, and_assoc, and_swap, kept_all, kept_both, kept_alike, some_kept}
+use Rattle.meaning.proofs.Lists.{and_swap, kept_all, kept_both, some_kept}
 use Rattle.meaning.proofs.Laws.{holds-mirrored, zero_less, zero_equal}
 
 -- the join conditions of a row, for one row of its parent
@@ -33,10 +36,7 @@ joins_of_tuple (j ∷ js) parent row = ap (λ b. join_true row j (cell j.parent 
 
 -- a translated block's conditions are its links and those that the translation adds
 joined_links : (links : List Link) (more : List Link) (parent row : Row) → joined (links ++ more) parent row ≡ (links_true links parent row && joined more parent row)
-joined_links [] more parent row = refl
-joined_links (l ∷ ls) more parent row =
-    ap (λ b. link_true parent row l && b) (joined_links ls more parent row)
-    ∙ sym (and_assoc (link_true parent row l) (links_true ls parent row) (joined more parent row))
+joined_links links more parent row = list_all-append (λ l. link_true parent row l) links more
 
 -- the rows of a block that pass for one row of its parent, where `inside` is their nested test
 abbrev pub passing : List Row → List Test → List Link → (Row → Bool) → Row → List Row
@@ -49,11 +49,12 @@ joining rows tests joins inside parent = filter (λ r. tests_true tests r && joi
 -- with more conditions the rows are those that meet these too
 with_more : (rows : List Row) (tests : List Test) (links : List Link) (more : List Link) (inside : Row → Bool) (parent : Row) → joining rows tests (links ++ more) inside parent ≡ filter (joined more parent) (passing rows tests links inside parent)
 with_more rows tests links more inside parent =
-    kept_alike (λ r. tests_true tests r && joined (links ++ more) parent r && inside r) (λ r. (tests_true tests r && links_true links parent r && inside r) && joined more parent r) rows
+    filter_agree (λ r. tests_true tests r && joined (links ++ more) parent r && inside r) (λ r. (tests_true tests r && links_true links parent r && inside r) && joined more parent r)
     (λ r.
     ap (λ b. tests_true tests r && b && inside r) (joined_links links more parent r)
     ∙ ap (λ b. b && inside r) (sym (and_assoc (tests_true tests r) (links_true links parent r) (joined more parent r)))
     ∙ and_swap (tests_true tests r && links_true links parent r) (joined more parent r) (inside r))
+    rows
     ∙ sym (kept_both (joined more parent) (λ r. tests_true tests r && links_true links parent r && inside r) rows)
 
 -- with no further condition they are the same
@@ -77,7 +78,7 @@ module _ {Total : Type 0} (db : Contents) (house : Meaning Total) where
       zero_less (joining (db b.table) b.tests (b.links ++ (j ∷ [])) inside row)
       ∙ ap (some (λ r. true)) (with_more (db b.table) b.tests b.links (j ∷ []) inside row)
       ∙ some_kept (joined (j ∷ []) row) rows
-      ∙ ap (λ p. some p rows) (fun_ext λ r. and_true (join_true r j (cell operand row)) ∙ holds-mirrored comparison (cell operand row) (cell inner r))
+      ∙ ap (λ p. some p rows) (fun_ext λ r. and-true (join_true r j (cell operand row)) ∙ holds-mirrored comparison (cell operand row) (cell inner r))
 
   -- a block whose nested test compares an operand with an aggregate, and adds no condition
   by_aggregate : (b : Inner) (operand : Operand) (comparison : Comparison) (a : Aggregate) (inside : Row → Bool) (row : Row) → flat_true (flat b [] operand comparison a) inside row ≡ holds comparison (operand_of operand row) (aggregated house a (passing (db b.table) b.tests b.links inside row))
