@@ -22,7 +22,7 @@ map-revised f (z ∷ (w ∷ ws)) y = ap (λ v. f z ∷ v) (map-revised f (w ∷ 
 -- the last becomes y, which is what g makes of it
 pub revised_by : {B : Type 0} (g : B → B) (xs : List B) (x y : B) → Some x ≡ latest xs → y ≡ g x → revised (λ _. y) xs ≡ revised g xs
 revised_by g [] x y e h = refl
-revised_by g (z ∷ []) x y e h = let s : x ≡ z = cc in rw (h, s)
+revised_by g (z ∷ []) x y e h = cc
 revised_by g (z ∷ (w ∷ ws)) x y e h = ap (λ v. z ∷ v) (revised_by g (w ∷ ws) x y e h)
 
 pub revised_none : {B : Type 0} (g : B → B) (xs : List B) → None ≡ latest xs → xs ≡ revised g xs
@@ -42,9 +42,9 @@ test_newest t q (x ∷ xs) b e = refl
 
 pub test_outermost : (t : Test) (q : Query) (inner : List Inner) → None ≡ latest inner → add_test t q inner ≡ record { table = q.table; tests = q.tests ++ (t ∷ []); inner = inner; outputs = q.outputs }
 test_outermost t q [] e = refl
-test_outermost t q (x ∷ xs) e = let z : ◌≡◌ {A = ℕ} 0 1 = never x xs e in absurd (omega arith)
+test_outermost t q (x ∷ xs) e = absurd (never x xs e)
   where
-    never : (x : Inner) (xs : List Inner) → None ≡ latest (x ∷ xs) → ◌≡◌ {A = ℕ} 0 1
+    never : (x : Inner) (xs : List Inner) → None ≡ latest (x ∷ xs) → ⊥
     never x [] e = cc
     never x (y ∷ ys) e = never y ys e
 

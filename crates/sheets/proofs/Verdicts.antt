@@ -21,11 +21,7 @@ opening : (q : Option Query) (ended : Bool) (e : Entry) (part : Part) → q ≡ 
 opening (Some q) ended e part h v = cc
 opening None true e part h v = cc
 opening None false (entry.Open table) part h v = opens (table_in_range table) part v
-opening None false (entry.Test column comparison constant) part h v = cc
-opening None false (entry.Link column comparison parent) part h v = cc
-opening None false (entry.Nest form table operand comparison code inner) part h v = cc
-opening None false (entry.Select column) part h v = cc
-opening None false entry.Finish part h v = cc
+opening None false other part h v = cc
 
 -- what is taken on a fresh sheet ends nothing
 pub taken_opening : (s : Spelled) (e : Entry) (part : Part) → verdict s e ≡ Ok part → s.query ≡ None → ends part ≡ false
