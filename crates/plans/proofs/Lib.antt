@@ -1,2 +1,1 @@
 pub mod OfSheets
-pub mod Rest
