@@ -130,17 +130,7 @@ module _ (tables : Tables) (p : Plan) where
       → ((n : ℕ) → some (filter_lacking (suc c) n) p.steps ≡ operand_lacking n (translated i).operand)
       → plan_block_fault tables p (suc c) ≡ block_fault tables (suc c) i.table (some_lacking (tables i.table) (own_columns i)) above (some_lacking (tables above) (parent_columns i)) (tables i.table)
   block_is c above i over table tests joins parent groups filters =
-      let own : (n : ℕ) → own_lacking p (suc c) n ≡ some (lacks n) (own_columns i) = λ n.
-      ap₂ (λ ts js. some (λ t. lacks n t.column) ts || (some (λ j. lacks n j.column) js || (some (group_lacking (suc c) n) p.steps || output_lacking p (suc c) n))) tests joins
-      ∙ ap₂ (λ g o. some (λ t. lacks n t.column) i.tests || (some (λ j. lacks n j.column) (translated i).joins || (g || (o && some (lacks n) p.outputs)))) (groups n) (ne_eqb (suc c) 0 (λ e. omega arith))
-      ∙ own_is n i in
-      let outer : (n : ℕ) → parent_lacking p (suc c) n ≡ some (lacks n) (parent_columns i) = λ n.
-      ap₂ (λ js t. some (λ j. lacks n j.parent) js || t) joins (filters n) ∙ parent_is n i in
-      let up : table_of p (parent_of p (suc c)) ≡ above = ap (table_of p) parent ∙ over in
-      let by : ℕ → ℕ → Option Fault = λ t u.
-      block_fault tables (suc c) t (own_lacking p (suc c) (columns_of (tables t))) u (parent_lacking p (suc c) (columns_of (tables u))) (tables t) in
-      ap₂ by table up
-      ∙ ap₂ (λ a b. block_fault tables (suc c) i.table a above b (tables i.table)) (own (columns_of (tables i.table))) (outer (columns_of (tables above)))
+      simp (parent, over, table, tests, joins, groups, filters, ne_eqb (suc c) 0 (λ e. omega arith), own_is (columns_of (tables i.table)) i, parent_is (columns_of (tables above)) i)
 
   inner_are : (is : List Inner) (c above : ℕ) → table_of p c ≡ above → Placed p (suc c) (map translated is)
       → ((n : ℕ) → Groups n c (map translated is)) → ((n : ℕ) → Filters n c (map translated is))
