@@ -141,7 +141,7 @@ module _ (tables : Tables) (p : Plan) where
       let first = block_is c above i over table (placed.1 ∙ translated_tests i i.nest) placed.2 (placed.3 ∙ omega arith) (λ n. (groups n).0) (λ n. (filters n).0) in
       let next : suc c + 1 ≡ suc (suc c) = omega arith in
       let rest = inner_are is (suc c) i.table table placed.4 (λ n. (groups n).1) (λ n. (filters n).1) in
-      ap₂ (λ f fs. f ∷ fs) first (ap (λ k. map (plan_block_fault tables p) (range_with_len k (length is))) next ∙ rest)
+      simp (first, next, rest)
 
 length-inner_blocks : (c : ℕ) (fs : List Flat) → length (inner_blocks c fs) ≡ length fs
 length-inner_blocks c [] = refl
@@ -157,16 +157,18 @@ module _ (tables : Tables) (q : Query) where
   -- block 0
   outer_is : plan_block_fault tables (plan q) 0 ≡ block_fault tables 0 q.table (some_lacking (tables q.table) (outer_columns q)) 0 false (tables q.table)
   outer_is =
-      let own : (n : ℕ) → own_lacking (plan q) 0 n ≡ some (lacks n) (outer_columns q) = λ n.
-      simp (in_none (λ b. group_lacking b n) (λ f. aggregate_lacking n f.aggregate) (group_one n) (λ k b r. refl) (λ k r. refl) flats, list_any-append, some-map) in
-      let outer : (n : ℕ) → parent_lacking (plan q) 0 n ≡ false = λ n.
-      in_none (λ b. filter_lacking b n) (λ f. operand_lacking n f.operand) (filter_one n) (λ k b r. refl) (λ k r. refl) flats in
-      ap₂ (λ a b. block_fault tables 0 q.table a q.table b (tables q.table)) (own (columns_of (tables q.table))) (outer (columns_of (tables q.table)))
-      ∙ no_parent (tables q.table)
+      let n : ℕ = columns_of (tables q.table) in
+      simp (
+        in_none (λ b. group_lacking b n) (λ f. aggregate_lacking n f.aggregate) (group_one n) (λ k b r. refl) (λ k r. refl) flats,
+        in_none (λ b. filter_lacking b n) (λ f. operand_lacking n f.operand) (filter_one n) (λ k b r. refl) (λ k r. refl) flats,
+        list_any-append,
+        some-map,
+      )
+      (no_parent _ (tables q.table))
     where
-      no_parent : (o : Option Table) → block_fault tables 0 q.table (some_lacking (tables q.table) (outer_columns q)) q.table false o ≡ block_fault tables 0 q.table (some_lacking (tables q.table) (outer_columns q)) 0 false o
-      no_parent None = refl
-      no_parent (Some t) = refl
+      no_parent : (lacking : Bool) (o : Option Table) → block_fault tables 0 q.table lacking q.table false o ≡ block_fault tables 0 q.table lacking 0 false o
+      no_parent lacking None = refl
+      no_parent lacking (Some t) = refl
 
   pub plan_fault_is : plan_fault tables (plan q) ≡ query_fault tables q
   plan_fault_is =

@@ -45,8 +45,4 @@ module _ {Total : Type 0} (p : Plan) (db : Contents) (house : Meaning Total) whe
   pub unnests_are : (fs : List Flat) (c : ℕ) (s : State) → Placed p (suc c) fs → take_steps p db house s (unnests c fs) ≡ unnested db house c fs s
   unnests_are [] c s places = refl
   unnests_are (f ∷ fs) c s places =
-      let before : State = unnested db house (suc c) fs s in
-      let by : List Link → State = λ j. filter (group house (project before c (suc c) j) (suc c) (suc c) j f.aggregate) c (suc c) j f.operand f.comparison in
-      fold-append (take_step p db house) s (unnests (suc c) fs) (unnest (suc c) c f)
-      ∙ ap (λ t. take_steps p db house t (unnest (suc c) c f)) (unnests_are fs (suc c) s places.4)
-      ∙ ap by places.2
+      simp (fold-append, unnests_are fs (suc c) s places.4, places.2)

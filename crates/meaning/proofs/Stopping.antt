@@ -46,8 +46,7 @@ same_table b other = refl
 same-visits : (is : List Inner) (b : ℕ) → flat_visits b (map translated is) ≡ inner_visits b is
 same-visits [] b = refl
 same-visits (i ∷ is) b =
-    ap (λ vs. vs ++ (record { block = b; table = (translated i).table } ∷ [])) (same-visits is (suc b))
-    ∙ ap (λ t. inner_visits (suc b) is ++ (record { block = b; table = t } ∷ [])) (same_table i i.nest)
+    simp (same-visits is (suc b), same_table i i.nest)
 
 module _ (tables : Tables) where
   abbrev rows_at : Visit → ℕ
@@ -130,9 +129,7 @@ module _ (tables : Tables) where
     unnests-go : (fs : List Flat) (c : ℕ) (s : State) → fold (go p tables house) (on s) (unnests c fs) ≡ on (take_steps p db house s (unnests c fs))
     unnests-go [] c s = refl
     unnests-go (f ∷ fs) c s =
-        fold-append (go p tables house) (on s) (unnests (suc c) fs) (unnest (suc c) c f)
-        ∙ ap (λ g. fold (go p tables house) g (unnest (suc c) c f)) (unnests-go fs (suc c) s)
-        ∙ ap on (sym (fold-append (take_step p db house) s (unnests (suc c) fs) (unnest (suc c) c f)))
+        simp (fold-append, unnests-go fs (suc c) s)
 
 module _ {Total : Type 0} (tables : Tables) (house : Meaning Total) (q : Query) where
   abbrev flats : List Flat
@@ -154,9 +151,7 @@ module _ {Total : Type 0} (tables : Tables) (house : Meaning Total) (q : Query) 
   -- the steps after RESTRICT
   rest : (s : State) → fold (go (plan q) tables house) (on s) last ≡ on (output (unnested (contents tables) house 0 flats s) 0 q.outputs)
   rest s =
-      fold-append (go (plan q) tables house) (on s) (unnests 0 flats) (Output 0 ∷ [])
-      ∙ ap (λ g. fold (go (plan q) tables house) g (Output 0 ∷ [])) (unnests-go tables house (plan q) flats 0 s)
-      ∙ ap (λ t. on (output t 0 q.outputs)) (unnests_are (plan q) (contents tables) house flats 0 s (plan_placed q))
+      simp (fold-append, unnests-go tables house (plan q) flats 0 s, unnests_are (plan q) (contents tables) house flats 0 s (plan_placed q))
 
   reads_all : first_met tables (visits q) 0 ≡ None → (all_unnested (contents tables) house q).reads ≡ row_counts tables q
   reads_all none =

@@ -1,7 +1,7 @@
 -- The nested tests after translation judge each row as the query's do.
 use Rattle.std.proofs.Common.{◌≡◌, ℕ, Bool, true, ◌&&◌, List, [], ◌∷◌, ◌++◌, map, filter, sym, refl, ap, ◌∙◌}
 use mathlib.Core.Path.{fun_ext}
-use Rattle.std.proofs.Math.Bool.{and_assoc, and-true}
+use Rattle.std.proofs.Math.Bool.{and_assoc, and_comm, and-true}
 use Rattle.std.proofs.lemmas.List.Elements.{filter_agree}
 use Rattle.std.proofs.lemmas.List.Folds.{list_all-append}
 use Rattle.terms.specs.declared.comparisons.Comparison.{Comparison}
@@ -49,13 +49,7 @@ joining rows tests joins inside parent = filter (λ r. tests_true tests r && joi
 -- with more conditions the rows are those that meet these too
 with_more : (rows : List Row) (tests : List Test) (links : List Link) (more : List Link) (inside : Row → Bool) (parent : Row) → joining rows tests (links ++ more) inside parent ≡ filter (joined more parent) (passing rows tests links inside parent)
 with_more rows tests links more inside parent =
-    filter_agree (λ r. tests_true tests r && joined (links ++ more) parent r && inside r) (λ r. (tests_true tests r && links_true links parent r && inside r) && joined more parent r)
-    (λ r.
-    ap (λ b. tests_true tests r && b && inside r) (joined_links links more parent r)
-    ∙ ap (λ b. b && inside r) (sym (and_assoc (tests_true tests r) (links_true links parent r) (joined more parent r)))
-    ∙ and_swap (tests_true tests r && links_true links parent r) (joined more parent r) (inside r))
-    rows
-    ∙ sym (kept_both (joined more parent) (λ r. tests_true tests r && links_true links parent r && inside r) rows)
+    simp (kept_both, list_all-append, and_assoc, λ (r : Row). and_comm (inside r) (joined more parent r))
 
 -- with no further condition they are the same
 with_none : (rows : List Row) (tests : List Test) (links : List Link) (inside : Row → Bool) (parent : Row) → joining rows tests (links ++ []) inside parent ≡ passing rows tests links inside parent
