@@ -7,7 +7,6 @@ use Rattle.std.proofs.Math.Bool.{or-false}
 use Rattle.std.specs.List.{range_with_len}
 use Rattle.terms.specs.declared.comparisons.Comparison.{Comparison}
 use Rattle.terms.specs.Comparisons.{mirrored}
-use Rattle.terms.specs.declared.faults.Fault.{Fault}
 use Rattle.terms.specs.Tables.{Table, Tables, columns_of}
 use Rattle.queries.specs.declared.aggregates.Aggregate.TheVariants.{CountRows}
 use Rattle.queries.specs.declared.nests.Nest.{Nest}
@@ -18,7 +17,7 @@ use Rattle.queries.specs.declared.steps.Step.TheVariants.{Restrict, Output}
 use Rattle.meaning.specs.Rows.{some}
 use Rattle.meaning.specs.Queries.{Inner, Query}
 use Rattle.meaning.specs.Plans.{Flat, Plan, translated_as, translated, inner_blocks, restricts, unnest, unnests, plan, table_of, tests_of, joins_of}
-use Rattle.meaning.specs.Checks.{first_of, nest_columns, nest_operands, own_columns, parent_columns, outer_columns, lacks, some_lacking, block_fault, inner_faults, query_fault, parent_of, aggregate_lacking, operand_lacking, group_lacking, filter_lacking, output_lacking, own_lacking, parent_lacking, plan_block_fault, plan_fault}
+use Rattle.meaning.specs.Checks.{first_of, nest_columns, nest_operands, own_columns, parent_columns, outer_columns, lacks, some_lacking, block_fault, inner_faults, query_fault, parent_of, aggregate_lacking, operand_lacking, group_lacking, filter_lacking, plan_block_fault, plan_fault}
 use Rattle.meaning.proofs.Resolving.{Placed, plan_placed}
 use Rattle.meaning.proofs.Stopping.{same_table}
 

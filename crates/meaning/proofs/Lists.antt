@@ -1,13 +1,7 @@
 -- Laws of filters.
-use Rattle.std.proofs.Common.{◌≡◌, Bool, true, false, ◌&&◌, List, [], ◌∷◌, filter, All, refl, ap, arith}
-use Rattle.std.proofs.Math.Bool.{and_comm}
+use Rattle.std.proofs.Common.{◌≡◌, Bool, true, ◌&&◌, List, [], ◌∷◌, filter, All, refl, ap, arith}
 use Rattle.std.proofs.lemmas.List.Elements.{All-head, All-tail}
 use Rattle.meaning.specs.Rows.{some}
-
--- the last test moved to the middle
-pub and_swap : (a b c : Bool) → ((a && b) && c) ≡ ((a && c) && b)
-and_swap true b c = and_comm b c
-and_swap false b c = refl
 
 pub kept_all : {X : Type 0} (xs : List X) → filter (λ x. true) xs ≡ xs
 kept_all [] = refl

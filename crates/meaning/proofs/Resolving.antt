@@ -3,12 +3,11 @@ use Rattle.std.proofs.Common.{◌≡◌, ℕ, suc, ◌-◌, List, [], ◌∷◌,
 use Rattle.std.proofs.lemmas.List.{get_or_at, map-append, length-map, length_push}
 use Rattle.std.proofs.lemmas.List.Sums.{fold-append}
 use Rattle.queries.specs.declared.steps.Step.TheVariants.{Restrict}
-use Rattle.queries.specs.declared.parts.Link.{Link}
 use Rattle.meaning.specs.Rows.{Contents}
 use Rattle.meaning.specs.Aggregates.{Meaning}
 use Rattle.meaning.specs.Queries.{Query}
-use Rattle.meaning.specs.Plans.{Flat, PlanBlock, Plan, translated, inner_blocks, unnest, unnests, plan, table_of, tests_of, joins_of}
-use Rattle.meaning.specs.Running.{State, restrict, project, group, filter, take_step, take_steps}
+use Rattle.meaning.specs.Plans.{Flat, PlanBlock, Plan, translated, inner_blocks, unnests, plan, table_of, tests_of, joins_of}
+use Rattle.meaning.specs.Running.{State, restrict, take_step, take_steps}
 use Rattle.meaning.specs.Checks.{parent_of}
 use Rattle.meaning.proofs.Unnesting.{unnested}
 
@@ -27,10 +26,10 @@ placed p (f ∷ fs) c front e h =
     let b : ℕ = suc c in
     let x : PlanBlock = record { table = f.table; tests = f.tests; joins = f.joins; parent = c } in
     let back : List PlanBlock = inner_blocks b fs in (
-      ap (λ bs. get_or (map (λ y. y.table) bs) b 0) h ∙ at (λ y. y.table) front x back 0 b e,
-      ap (λ bs. get_or (map (λ y. y.tests) bs) b []) h ∙ at (λ y. y.tests) front x back [] b e,
-      ap (λ bs. get_or (map (λ y. y.joins) bs) b []) h ∙ at (λ y. y.joins) front x back [] b e,
-      ap (λ bs. get_or (map (λ y. y.parent) bs) b 0) h ∙ at (λ y. y.parent) front x back 0 b e ∙ omega arith,
+      rw h (at (λ y. y.table) front x back 0 b e),
+      rw h (at (λ y. y.tests) front x back [] b e),
+      rw h (at (λ y. y.joins) front x back [] b e),
+      rw h (at (λ y. y.parent) front x back 0 b e ∙ omega arith),
       placed p fs b (front ++ (x ∷ [])) (length_push front x ∙ omega arith) (h ∙ sym (append_assoc front (x ∷ []) back)),
     )
 

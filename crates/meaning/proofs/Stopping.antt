@@ -13,7 +13,7 @@ use Rattle.queries.specs.declared.steps.Step.TheVariants.{Restrict, Output}
 use Rattle.meaning.specs.Rows.{Contents}
 use Rattle.meaning.specs.Aggregates.{Meaning}
 use Rattle.meaning.specs.Queries.{Inner, Query, nested}
-use Rattle.meaning.specs.Plans.{Flat, Plan, translated, translated_as, restricts, unnest, unnests, plan, table_of}
+use Rattle.meaning.specs.Plans.{Flat, Plan, translated, translated_as, restricts, unnests, plan, table_of}
 use Rattle.meaning.specs.Running.{State, nothing, restrict, output, take_step, take_steps}
 use Rattle.meaning.specs.Reading.{stored, readable, contents, first_unreadable, Stop, Visit, inner_visits, visits, met, first_met, row_counts, unless, answers, Going, on, stopped, unless_met, go, outcome, ran}
 use Rattle.meaning.proofs.Unnesting.{restricted, unnested, all_restricted, all_unnested, writes_nested, unnested_reads}

@@ -1,13 +1,12 @@
 -- The nested tests after translation judge each row as the query's do.
-use Rattle.std.proofs.Common.{◌≡◌, ℕ, Bool, true, ◌&&◌, List, [], ◌∷◌, ◌++◌, map, filter, sym, refl, ap, ◌∙◌}
+use Rattle.std.proofs.Common.{◌≡◌, ℕ, Bool, true, ◌&&◌, List, [], ◌∷◌, ◌++◌, map, filter, refl, ap, ◌∙◌}
 use mathlib.Core.Path.{fun_ext}
 use Rattle.std.proofs.Math.Bool.{and_assoc, and_comm, and-true}
-use Rattle.std.proofs.lemmas.List.Elements.{filter_agree}
 use Rattle.std.proofs.lemmas.List.Folds.{list_all-append}
 use Rattle.terms.specs.declared.comparisons.Comparison.{Comparison}
 use Rattle.terms.specs.declared.comparisons.Comparison.TheVariants.{Equal, Less}
 use Rattle.terms.specs.Cells.{Row, every}
-use Rattle.terms.specs.Comparisons.{holds, mirrored}
+use Rattle.terms.specs.Comparisons.{holds}
 use Rattle.queries.specs.declared.aggregates.Aggregate.{Aggregate}
 use Rattle.queries.specs.declared.aggregates.Aggregate.TheVariants.{CountRows, Of}
 use Rattle.queries.specs.declared.nests.Nest.{Nest}
@@ -19,10 +18,10 @@ use Rattle.queries.specs.declared.steps.Operand.TheVariants.{Column, Zero}
 use Rattle.queries.specs.Codes.{extreme}
 use Rattle.meaning.specs.Rows.{Contents, cell, some}
 use Rattle.meaning.specs.Aggregates.{Meaning, aggregated}
-use Rattle.meaning.specs.Queries.{Inner, tests_true, link_true, links_true, nest_true, judged}
+use Rattle.meaning.specs.Queries.{Inner, tests_true, links_true, nest_true, judged}
 use Rattle.meaning.specs.Plans.{Flat, flat, flat_any, translated, translated_as}
 use Rattle.meaning.specs.Running.{tuple_of, join_true, joins_true, operand_of}
-use Rattle.meaning.proofs.Lists.{and_swap, kept_all, kept_both, some_kept}
+use Rattle.meaning.proofs.Lists.{kept_all, kept_both, some_kept}
 use Rattle.meaning.proofs.Laws.{holds-mirrored, zero_less, zero_equal}
 
 -- the join conditions of a row, for one row of its parent
@@ -33,10 +32,6 @@ joined joins parent row = every (λ j. join_true row j (cell j.parent parent)) j
 pub joins_of_tuple : (joins : List Link) (parent row : Row) → joins_true joins (tuple_of joins parent) row ≡ joined joins parent row
 joins_of_tuple [] parent row = refl
 joins_of_tuple (j ∷ js) parent row = ap (λ b. join_true row j (cell j.parent parent) && b) (joins_of_tuple js parent row)
-
--- a translated block's conditions are its links and those that the translation adds
-joined_links : (links : List Link) (more : List Link) (parent row : Row) → joined (links ++ more) parent row ≡ (links_true links parent row && joined more parent row)
-joined_links links more parent row = list_all-append (λ l. link_true parent row l) links more
 
 -- the rows of a block that pass for one row of its parent, where `inside` is their nested test
 abbrev pub passing : List Row → List Test → List Link → (Row → Bool) → Row → List Row
@@ -67,17 +62,12 @@ module _ {Total : Type 0} (db : Contents) (house : Meaning Total) where
 
   by_any : (b : Inner) (operand : ℕ) (comparison : Comparison) (inner : ℕ) (inside : Row → Bool) (row : Row) → flat_true (flat_any b operand comparison inner) inside row ≡ some (λ r. holds comparison (cell operand row) (cell inner r)) (passing (db b.table) b.tests b.links inside row)
   by_any b operand comparison inner inside row =
-      let rows : List Row = passing (db b.table) b.tests b.links inside row in
-      let j : Link = record { column = inner; comparison = mirrored comparison; parent = operand } in
-      zero_less (joining (db b.table) b.tests (b.links ++ (j ∷ [])) inside row)
-      ∙ ap (some (λ r. true)) (with_more (db b.table) b.tests b.links (j ∷ []) inside row)
-      ∙ some_kept (joined (j ∷ []) row) rows
-      ∙ ap (λ p. some p rows) (fun_ext λ r. and-true (join_true r j (cell operand row)) ∙ holds-mirrored comparison (cell operand row) (cell inner r))
+      simp (zero_less, with_more, some_kept)
+      (ap (λ p. some p (passing (db b.table) b.tests b.links inside row)) (fun_ext λ r. and-true _ ∙ holds-mirrored comparison (cell operand row) (cell inner r)))
 
   -- a block whose nested test compares an operand with an aggregate, and adds no condition
   by_aggregate : (b : Inner) (operand : Operand) (comparison : Comparison) (a : Aggregate) (inside : Row → Bool) (row : Row) → flat_true (flat b [] operand comparison a) inside row ≡ holds comparison (operand_of operand row) (aggregated house a (passing (db b.table) b.tests b.links inside row))
-  by_aggregate b operand comparison a inside row =
-      ap (λ rows. holds comparison (operand_of operand row) (aggregated house a rows)) (with_none (db b.table) b.tests b.links inside row)
+  by_aggregate b operand comparison a inside row = simp with_none
 
   one_test : (b : Inner) (n : Nest) (inside : Row → Bool) (row : Row) → flat_true (translated_as b n) inside row ≡ nest_true house n row (passing (db b.table) b.tests b.links inside row)
   one_test b (Aggregated operand comparison a) inside row = by_aggregate b (Column operand) comparison a inside row
@@ -91,5 +81,4 @@ module _ {Total : Type 0} (db : Contents) (house : Meaning Total) where
   pub same_judgement : (bs : List Inner) (row : Row) → flat_judged (map translated bs) row ≡ judged db house bs row
   same_judgement [] row = refl
   same_judgement (b ∷ bs) row =
-      one_test b b.nest (flat_judged (map translated bs)) row
-      ∙ ap (λ inside. nest_true house b.nest row (passing (db b.table) b.tests b.links inside row)) (fun_ext (same_judgement bs))
+      simp (one_test b b.nest, same_judgement bs)

@@ -1,17 +1,18 @@
 -- What the steps leave, block by block: RESTRICT loads every block, and PROJECT, GROUP and FILTER leave a parent the rows
 -- whose nested tests are true.
-use Rattle.std.proofs.Common.{◌≡◌, ℕ, suc, ◌<◌, Bool, true, ◌&&◌, eqb, List, [], ◌∷◌, map, filter as kept_by, sym, refl, ap, ◌∙◌, arith}
+use Rattle.std.proofs.Common.{◌≡◌, ℕ, suc, ◌<◌, Bool, true, eqb, List, [], ◌∷◌, map, filter as kept_by, sym, refl, ap, ◌∙◌, arith}
 use mathlib.Core.Path.{fun_ext}
+use Rattle.std.proofs.Math.Bool.{and_assoc, and_comm}
 use Rattle.std.proofs.lemmas.Bool.{eq-eqb, ne_eqb, cond-true, cond-false}
-use Rattle.std.proofs.lemmas.List.Elements.{All-weaker, filter_agree}
+use Rattle.std.proofs.lemmas.List.Elements.{All-weaker}
 use Rattle.terms.specs.Cells.{Cell, Row}
 use Rattle.terms.specs.Comparisons.{holds}
 use Rattle.meaning.specs.Rows.{Contents, cells, alike, some}
 use Rattle.meaning.specs.Aggregates.{Meaning, Answer, aggregated}
 use Rattle.meaning.specs.Queries.{Query, tests_true, judged, nested}
 use Rattle.meaning.specs.Plans.{Flat, translated}
-use Rattle.meaning.specs.Running.{Group, State, nothing, put, restrict, tuple_of, distinct, unanswered, project, joins_true, joined_cells, answer_over, group_answer, with_answer, group, operand_of, passes, filter, output}
-use Rattle.meaning.proofs.Lists.{and_swap, kept_all, kept_both, kept_same}
+use Rattle.meaning.specs.Running.{Group, State, nothing, put, restrict, tuple_of, distinct, unanswered, project, joins_true, group_answer, with_answer, group, operand_of, passes, filter, output}
+use Rattle.meaning.proofs.Lists.{kept_all, kept_both, kept_same}
 use Rattle.meaning.proofs.Laws.{group_is_aggregate}
 use Rattle.meaning.proofs.Tuples.{own_tuple, answer_found}
 use Rattle.meaning.proofs.Translating.{joined, joins_of_tuple, joining, flat_true, flat_judged, same_judgement}
@@ -56,21 +57,11 @@ module _ {Total : Type 0} (db : Contents) (house : Meaning Total) where
 
   -- the rows that a row's own tuple is joined with
   joined_rows : (f : Flat) (inside : Row → Bool) (row : Row) → kept_by (joins_true f.joins (tuple_of f.joins row)) (kept_by inside (kept_by (tests_true f.tests) (db f.table))) ≡ joining (db f.table) f.tests f.joins inside row
-  joined_rows f inside row =
-      let rows : List Row = db f.table in
-      let fit : Row → Bool = joins_true f.joins (tuple_of f.joins row) in
-      ap (kept_by fit) (kept_both inside (tests_true f.tests) rows)
-      ∙ kept_both fit (λ r. tests_true f.tests r && inside r) rows
-      ∙ filter_agree (λ r. (tests_true f.tests r && inside r) && fit r) (λ r. tests_true f.tests r && joined f.joins row r && inside r)
-      (λ r. ap (λ b. (tests_true f.tests r && inside r) && b) (joins_of_tuple f.joins row r) ∙ and_swap (tests_true f.tests r) (inside r) (joined f.joins row r))
-      rows
+  joined_rows f inside row = simp (kept_both, joins_of_tuple f.joins row, and_assoc, λ (r : Row). and_comm (inside r) (joined f.joins row r))
 
   -- the answer of a row's own tuple is the aggregate over the inner rows that pass for it
   own_answer : (f : Flat) (inside : Row → Bool) (inner : List Row) → inner ≡ kept_by inside (kept_by (tests_true f.tests) (db f.table)) → (row : Row) → group_answer house f.joins f.aggregate inner (tuple_of f.joins row) ≡ aggregated house f.aggregate (joining (db f.table) f.tests f.joins inside row)
-  own_answer f inside inner e row =
-      let answer : List Row → Answer = λ rows. answer_over house f.aggregate (joined_cells f.aggregate rows) in
-      ap answer (ap (kept_by (joins_true f.joins (tuple_of f.joins row))) e ∙ joined_rows f inside row)
-      ∙ group_is_aggregate house f.aggregate (joining (db f.table) f.tests f.joins inside row)
+  own_answer f inside inner e row = simp (e, joined_rows f inside row, group_is_aggregate)
 
   -- PROJECT, GROUP and FILTER leave the parent the rows whose nested test is true
   filtered : (f : Flat) (inside : Row → Bool) (parents inner : List Row) → inner ≡ kept_by inside (kept_by (tests_true f.tests) (db f.table)) → kept_by (passes (map (with_answer (group_answer house f.joins f.aggregate inner)) (map unanswered (distinct (map (tuple_of f.joins) parents)))) f.joins f.operand f.comparison) parents ≡ kept_by (flat_true db house f inside) parents
