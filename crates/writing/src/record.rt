@@ -4,7 +4,7 @@ ghost use Rattle.std.specs.List.{flat_map};
 ghost use Rattle.sources.specs.Heads.{rows_in, head_table};
 ghost use Rattle.cards.specs.Format.{row_width};
 ghost use Rattle.writing.specs.Laws.{Shows};
-ghost use Rattle.writing.specs.Records.{cell_bytes, mark_of, row_bytes, head_bytes, head_record, write_verdict, write_answer};
+ghost use Rattle.writing.specs.Records.{cell_bytes, mark_of, row_bytes, head_bytes, head_record, record_length, write_verdict, write_answer};
 
 use cards::row_width;
 use sources::{TableHead, check_range};
@@ -23,20 +23,29 @@ pub fn write_table(head: TableHead, cells: &[Cell], out: &mut [u8]) -> Result<us
     let end = first + head.rows * head.columns as usize;
     let rows = &cells[first..end];
     check_range(rows);
-    let size = 2 + head.rows * row_width(head.columns);
-    out[..6].copy_from_slice(&head_bytes(size, head.number, head.columns));
-    write_rows(head.columns, rows, &mut out[6..4 + size]);
-    Ok(4 + size)
+    let length = record_length(head);
+    out[..6].copy_from_slice(&head_bytes(length - 4, head.number, head.columns));
+    write_rows(head.columns, rows, &mut out[6..length]);
+    Ok(length)
 }
 
 fn check_write(head: TableHead, cells: usize, room: usize) -> Result<(), Fault>
     ensures { result ≡ write_verdict head cells room }
 {
     Fault::placed(head.check(cells), 0)?;
-    if 6 + head.rows * row_width(head.columns) > room {
+    if record_length(head) > room {
         return Err(Fault::at_place(Refusal::BufferShort, 0));
     }
     Ok(())
+}
+
+// The bytes of a table's record: four of head, the table's number and columns, and its rows.
+fn record_length(head: TableHead) -> usize
+    requires rows { head.rows ≤ 1024 }
+    requires columns { head.columns ≤ 6 }
+    ensures { result ≡ record_length head }
+{
+    6 + head.rows * row_width(head.columns)
 }
 
 // A record's head and its table's.

@@ -77,8 +77,8 @@ fn shows_nine(rt: &impl Abort, image: &[u8]) {
             rows: 2,
         })
     );
-    assert_eq!(rt; record_of(&card, 9).is_some(), true);
-    assert_eq!(rt; record_of(&card, 8).is_none(), true);
+    assert!(rt; record_of(&card, 9).is_some());
+    assert!(rt; record_of(&card, 8).is_none());
     let mut place = [Some(7); 6];
     assert_eq!(rt; card.fetch(9, 0, &mut place), Ok(()));
     assert_eq!(rt;

@@ -1,4 +1,4 @@
-use Rattle.writing.proofs.Once.{found_once, none_once}
+use Rattle.writing.proofs.Once.{found_once}
 use Rattle.writing.proofs.reading.record_of.Goals as goal
 
 pub returns : goal.returns
