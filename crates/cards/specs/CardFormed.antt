@@ -4,12 +4,12 @@ use Rattle.std.proofs.Common.{sym, ap, subst, ◌∙◌, ⊎_elim, arith}
 use Rattle.std.specs.Int.{w32}
 use mir.Val.{to_z}
 use Rattle.std.proofs.lemmas.Bool.{and_parts, and_from, leb-true, eqb-true, true≢false, cond_both, cases_lt, lt-ltb, le-ltb, le-leb}
-use Rattle.std.specs.Option.{option_map}
 use Rattle.std.specs.List.{AllByRecursion}
 use Rattle.terms.specs.declared.refusals.Refusal.{Refusal}
 use Rattle.terms.specs.Cells.{cell_in_range, in_range, every}
 use Rattle.terms.specs.Numbered.{within}
-use Rattle.terms.specs.Tables.{RowFormed, Formed, TableFormed, WellFormed}
+use Rattle.terms.specs.Tables.{RowFormed, Formed, WellFormed}
+use Rattle.sources.specs.Formed.{found_formed}
 use Rattle.sources.specs.Heads.{number_and_columns_in_range}
 use Rattle.terms.proofs.Loops.{numbered_in_front, numbered_behind}
 use Rattle.terms.proofs.Taken.{taken_at, taken_then, taken_else, between}
@@ -112,24 +112,7 @@ table_formed n t s = record {
   each_row = rows_formed (row_count t.columns t.bytes) t.columns t.bytes;
 }
 
-module _ (image : List ℕ) (taken : card_takes image ≡ true) where
-  none_outside : (n : ℕ) → ((t : RawTable) → Sound n t → ⊥) → card_tables image n ≡ None
-  none_outside n no_table = go (raw_table image n) refl
-    where
-      go : (o : Option RawTable) → raw_table image n ≡ o → option_map shown o ≡ None
-      go None q = refl
-      go (Some t) q = absurd (no_table t (sound_table image n t taken q))
-
-  formed_at : (n : ℕ) → TableFormed (card_tables image n)
-  formed_at n = go (raw_table image n) refl
-    where
-      go : (o : Option RawTable) → raw_table image n ≡ o → TableFormed (option_map shown o)
-      go None q = tt
-      go (Some t) q = table_formed n t (sound_table image n t taken q)
-
-  pub card_formed : WellFormed (card_tables image)
-  card_formed = record {
-    none_at_zero = none_outside 0 (λ t s. omega (arith, s.number_low));
-    none_above = λ n p. none_outside n (λ t s. omega (arith, s.number_high));
-    each_table = formed_at;
-  }
+pub card_formed : (image : List ℕ) → card_takes image ≡ true → WellFormed (card_tables image)
+card_formed image taken =
+    found_formed shown (raw_table image)
+    (λ n t q. let s = sound_table image n t taken q in record { number_low = s.number_low; number_high = s.number_high; formed = table_formed n t s })

@@ -1,5 +1,5 @@
 -- The rows of a head, one by one.
-use Rattle.std.proofs.Common.{◌≡◌, ℕ, zero, suc, ◌+◌, ◌-◌, ◌*◌, ◌<◌, ◌≤◌, List, map, length, take, drop, Some, None, sym, ap, ◌∙◌, suc-mul, zero-mul, arith}
+use Rattle.std.proofs.Common.{◌≡◌, ℕ, zero, suc, ◌+◌, ◌-◌, ◌*◌, ◌<◌, ◌≤◌, List, ◌∷◌, map, length, take, drop, Some, None, sym, refl, ap, ◌∙◌, suc-mul, zero-mul, arith}
 use Rattle.std.proofs.lemmas.List.{drop-drop, length-map}
 use Rattle.std.proofs.lemmas.Option.{slice_get_past}
 use Rattle.std.specs.List.{slice_get}
@@ -11,17 +11,19 @@ use Rattle.sources.specs.Heads.{rows_in, head_table}
 use Rattle.sources.specs.Benches.{head_for, bench_tables}
 use Rattle.sources.specs.BenchFormed.{length_rows}
 
-nth_row : (n columns : ℕ) (cells : List Cell) (k : ℕ) → k < n → slice_get (map Some (rows_in n columns cells)) k ≡ Some (Some (take columns (drop (k * columns) cells)))
-nth_row zero columns cells k h = absurd (omega arith)
-nth_row (suc n) columns cells zero h = ap (λ m. Some (Some (take columns (drop m cells)))) (sym (zero-mul columns))
-nth_row (suc n) columns cells (suc k) h =
-    nth_row n columns (drop columns cells) k (omega arith)
-    ∙ ap (λ l. Some (Some (take columns l))) (drop-drop (k * columns) columns cells ∙ ap (λ m. drop m cells) (omega (arith, suc-mul k columns)))
+-- a part of a list that is cut into parts of one size, by its index
+pub nth_part : {X Y : Type 0} (parts : ℕ → List X → List Y) (read : List X → Y) (w : ℕ) → ((n : ℕ) (xs : List X) → parts (suc n) xs ≡ read (take w xs) ∷ parts n (drop w xs)) → (n : ℕ) (xs : List X) (k : ℕ) → k < n → slice_get (parts n xs) k ≡ Some (read (take w (drop (k * w) xs)))
+nth_part parts read w next zero xs k h = absurd (omega arith)
+nth_part parts read w next (suc n) xs zero h = ap (λ ys. slice_get ys 0) (next n xs) ∙ ap (λ m. Some (read (take w (drop m xs)))) (sym (zero-mul w))
+nth_part parts read w next (suc n) xs (suc k) h =
+    ap (λ ys. slice_get ys (suc k)) (next n xs)
+    ∙ nth_part parts read w next n (drop w xs) k (omega arith)
+    ∙ ap (λ l. Some (read (take w l))) (drop-drop (k * w) w xs ∙ ap (λ m. drop m xs) (omega (arith, suc-mul k w)))
 
 -- a row below the count, and one past it
 pub row_here : (cells : List Cell) (h : TableHead) (k : ℕ) → k < h.rows → slice_get (head_table cells h).rows k ≡ Some (Some (take h.columns (drop (h.first + k * h.columns) cells)))
 row_here cells h k p =
-    nth_row h.rows h.columns (drop h.first cells) k p
+    nth_part (λ n cs. map Some (rows_in n h.columns cs)) Some h.columns (λ _ _. refl) h.rows (drop h.first cells) k p
     ∙ ap (λ l. Some (Some (take h.columns l))) (drop-drop (k * h.columns) h.first cells)
 
 pub length_table : (cells : List Cell) (h : TableHead) → length (head_table cells h).rows ≡ h.rows

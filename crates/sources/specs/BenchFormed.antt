@@ -1,16 +1,16 @@
 -- A proof, for the bench's promise as a source: the tables that a bench shows are well formed.
-use Rattle.std.specs.Prelude.{◌≡◌, ℕ, zero, suc, ◌+◌, ◌*◌, ◌≤◌, Bool, true, false, cond, ◌&&◌, List, [], ◌∷◌, length, drop, is_ok, Some, None, Option, ◌==◌, nat_le, refl}
+use Rattle.std.specs.Prelude.{◌≡◌, ℕ, zero, suc, ◌+◌, ◌*◌, ◌≤◌, Bool, true, false, cond, ◌&&◌, List, [], ◌∷◌, length, drop, is_ok, Some, ◌==◌, nat_le, refl}
 use Rattle.std.proofs.Common.{ap, subst, suc-mul, arith, length-take, length-drop}
 use Rattle.std.proofs.ByRecursion.{All-map}
 use Rattle.std.proofs.lemmas.List.{length-map}
 use Rattle.std.proofs.lemmas.Bool.{and_parts, leb-true, eqb-true}
-use Rattle.std.specs.Option.{option_map}
 use Rattle.std.specs.List.{AllByRecursion}
 use Rattle.terms.specs.Cells.{Cell, cell_in_range, every}
 use Rattle.terms.specs.Numbered.{within}
-use Rattle.terms.specs.Tables.{Filled, RowFormed, Formed, TableFormed, WellFormed}
+use Rattle.terms.specs.Tables.{Filled, RowFormed, Formed, WellFormed}
 use Rattle.terms.proofs.Everys.{every_take, every_drop}
 use Rattle.terms.proofs.Taken.{taken_at, taken_then, between}
+use Rattle.sources.specs.Formed.{found_formed}
 use Rattle.sources.specs.declared.head.TableHead.{TableHead}
 use Rattle.sources.specs.Heads.{number_and_columns_in_range, head_verdict, rows_in, head_rows, head_table}
 use Rattle.sources.specs.Benches.{heads_verdict, bench_takes, head_for, bench_tables}
@@ -75,24 +75,7 @@ table_formed cells n h s e = record {
   each_row = All-map (RowFormed h.columns) Some (head_rows cells h) (rows_filled h.rows h.columns (drop h.first cells) (simp length-drop (omega (arith, s.inside))) (every_drop cell_in_range h.first cells e));
 }
 
-module _ (heads : List TableHead) (cells : List Cell) (taken : bench_takes heads cells ≡ true) (ranged : every cell_in_range cells ≡ true) where
-  none_outside : (n : ℕ) → ((h : TableHead) → Sound (length cells) n h → ⊥) → bench_tables heads cells n ≡ None
-  none_outside n no_head = go (head_for heads n) refl
-    where
-      go : (o : Option TableHead) → head_for heads n ≡ o → option_map (head_table cells) o ≡ None
-      go None q = refl
-      go (Some h) q = absurd (no_head h (sound_for heads cells n h taken q))
-
-  formed_at : (n : ℕ) → TableFormed (bench_tables heads cells n)
-  formed_at n = go (head_for heads n) refl
-    where
-      go : (o : Option TableHead) → head_for heads n ≡ o → TableFormed (option_map (head_table cells) o)
-      go None q = tt
-      go (Some h) q = table_formed cells n h (sound_for heads cells n h taken q) ranged
-
-  pub bench_formed : WellFormed (bench_tables heads cells)
-  bench_formed = record {
-    none_at_zero = none_outside 0 (λ h s. omega (arith, s.number_low));
-    none_above = λ n p. none_outside n (λ h s. omega (arith, s.number_high));
-    each_table = formed_at;
-  }
+pub bench_formed : (heads : List TableHead) (cells : List Cell) → bench_takes heads cells ≡ true → every cell_in_range cells ≡ true → WellFormed (bench_tables heads cells)
+bench_formed heads cells taken ranged =
+    found_formed (head_table cells) (head_for heads)
+    (λ n h q. let s = sound_for heads cells n h taken q in record { number_low = s.number_low; number_high = s.number_high; formed = table_formed cells n h s ranged })
