@@ -31,7 +31,7 @@ BY_TEXT = {
     '4a Copy, Clone or a comparison by hand': r'impl<?[^\n]*\b(Copy|Clone|PartialEq|Eq|PartialOrd|Ord) for|fn same_\w+',
     '4b a conversion by hand': r'fn number\(|fn numbered\(|fn code\(|Some\((\w+)\) => Some\(\1 as|Err\(\w+\) => Err\(\w*[:!(]|fn number_of|fn (narrowed|widened)\(',
     '4c printing by hand': r"fn \w*(_text|_line|_meaning)\(|-> &'static str|fn push_padded",
-    '4d a type that derives no comparison': r'#\[derive\(Clone, Copy\)\]',
+    '4d a public enum that derives no comparison': r'#\[derive\(Clone, Copy\)\]\npub enum',
     '6a a buffer with a length beside it': r'items: \[T; N\],|truncate\(|\w+: &(mut )?\[WorkCell\],\s*(kept|tuples|count): usize',
     '6b parallel arrays': r'^\s*(pub )?\w+: \[(usize|Region); 4\],',
     '7 a switch over functions': r'=> \{?\s*group::<|=> (copy|export|import)\(',

@@ -44,6 +44,7 @@ pub(crate) fn filter(
     ensures rows { rows_in result kept.width (values rows.new) ≡ filter (passes (groups_left groups.entry) joins.now operand comparison) (rows_in kept.rows kept.width (values rows.old)) }
 {
     let width = kept.width;
+    // How many rows are left, and so where the next one goes.
     let mut left: usize = 0;
     // By index, since the rows move within the cells that they are read from.
     for i in 0..kept.rows {

@@ -51,7 +51,8 @@ fn group_one<A: AggregateFunction>(
     A::answer(&total)
 }
 
-// Writes the answer of each tuple behind it.
+// Writes the answer of each tuple behind it. The keys are lent beside their number and not as Groups, because they are
+// overwritten in place.
 fn group<A: AggregateFunction>(
     joins: &[Link],
     aggregate: Aggregate,

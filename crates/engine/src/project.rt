@@ -42,6 +42,7 @@ pub(crate) fn project(joins: &[Link], rows: Rows, keys: &mut [WorkCell]) -> usiz
 {
     let len = joins.len();
     let width = len + 1;
+    // How many tuples there are, and so where the next one goes.
     let mut tuples: usize = 0;
     'rows: for row in rows {
         let groups = Groups {

@@ -67,6 +67,7 @@ pub(crate) fn restrict<S: Source>(
     ensures rows { IfOk result (λ n. rows_in n extent.width (values cells.new) ≡ filter (tests_true tests.now) (readable (rows_of (S.tables source.old table)))) }
 {
     let mut fetched = [None; MAX_COLUMNS];
+    // How many rows are kept, and so where the next one goes. A fetch wants the row's number.
     let mut kept: usize = 0;
     for i in 0..extent.rows {
         Fault::in_block(source.fetch(table, i, &mut fetched), block)?;

@@ -18,8 +18,9 @@ pub struct Link {
     pub parent: u8,
 }
 
+// What fills the places of a list that are not in use. It is no `Default`, for no test and no link is meant where none is
+// said; a const can't be one for both.
 impl Test {
-    // Fills the places of a list that are not in use.
     pub const BLANK: Test = Test {
         column: 0,
         comparison: Comparison::Equal,
@@ -28,7 +29,6 @@ impl Test {
 }
 
 impl Link {
-    // Fills the places of a list that are not in use.
     pub const BLANK: Link = Link {
         column: 0,
         comparison: Comparison::Equal,

@@ -65,6 +65,7 @@ impl PlainTable {
             first: 0,
             rows: self.shape.rows,
         };
+        // A record is written into a lent buffer, so the longest is made and then cut.
         let mut record = vec![in heap; 0u8; LONGEST_RECORD]?;
         let size = write_table(head, &self.cells, &mut record).map_err(
             |fault| CopyError::RefusedTable {

@@ -28,6 +28,7 @@ fn main(rt: HostRuntime) -> anyhow::Result<()> {
 fn run(rt: &(impl Env + Files + Print + AllocGlobal)) -> anyhow::Result<()> {
     let words: Vec<String> = env::args(rt)?.collect(rt.alloc())?;
     let words: Vec<&str> = words.iter().map(String::as_str).collect(rt.alloc())?;
+    // A match, and no table of functions, since each command takes words of its own.
     match words.as_slice() {
         [] | [_] => {
             show_card(rt, "the built-in card", &SITES_AND_PICKS)?;

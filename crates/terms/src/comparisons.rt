@@ -62,7 +62,7 @@ impl From<Comparison> for u8 {
     }
 }
 
-// The comparison with a number; outside 1 to 6 there is none.
+// The comparison with a number; outside 1 to 6 there is none. Each enum lists its own cases: no derive makes a `TryFrom`.
 impl TryFrom<u8> for Comparison {
     type Error = Refusal;
 

@@ -103,7 +103,8 @@ impl Fault {
         answer.map_err(|fault| fault.with_block(block))
     }
 
-    // The number by which a call's answer is told: 0 where it was taken.
+    // The number by which a call's answer is told: 0 where it was taken. It is no `From`, since neither of the two types is
+    // this crate's.
     pub fn number_of(answer: Result<(), Fault>) -> u8
         ensures { result ≡ told answer }
     {
