@@ -35,6 +35,7 @@ pub(crate) fn read_cells(columns: u8, mark: u8, bytes: &[u8]) -> [Cell; MAX_COLU
 {
     let mut cells = [None; MAX_COLUMNS];
     let (words, _) = bytes.as_chunks::<4>();
+    // By index: of cells that `iter_mut` has lent, a proof knows nothing afterwards.
     for (i, word) in words.iter().enumerate() {
         cells[i] = read_cell(mark, i, *word);
     }

@@ -7,9 +7,9 @@ ghost use Rattle.cards.specs.Views.{kind_numbered};
 
 use terms::Refusal;
 
-// What a record may hold.
+// What a record may hold, under the number that its head gives.
 #[derive(Clone, Copy, PartialEq, Eq, Debug)]
-pub(crate) enum RecordKind {
+pub enum RecordKind {
     Table = 1,
     Remark = 2,
 }

@@ -8,4 +8,4 @@ mod records;
 mod rows;
 
 pub use card::Card;
-pub use format::row_width;
+pub use format::{RecordKind, row_width};

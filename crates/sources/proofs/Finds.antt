@@ -1,7 +1,6 @@
 -- The first head with a number, in std's words, and what holds of it.
-use Rattle.std.proofs.Common.{◌≡◌, ℕ, eqb, List, refl, sym, length, Option, IfSome}
+use Rattle.std.proofs.Common.{◌≡◌, ℕ, cond, eqb, List, length, Some, None, Option, IfSome, sym, refl}
 use Rattle.std.proofs.lemmas.List.Recursion.{same_from_clauses}
-use Rattle.std.proofs.Common.{cond, Some, None}
 use Rattle.std.specs.List.{find}
 use Rattle.sources.specs.declared.head.TableHead.{TableHead}
 use Rattle.sources.specs.declared.bench.Bench.{Bench}

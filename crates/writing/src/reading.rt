@@ -17,7 +17,7 @@ pub fn record_of<'a>(card: &Card<'a>, table: u8) -> Option<&'a [u8]>
     Some(bytes)
 }
 
-// A byte is below 256 by its type, which a proof knows of a function's own parameter.
+// A byte is below 256 by its type. A proof knows that of what a function is passed, and not of what a call gave.
 fn check_bytes(_bytes: &[u8])
     ensures { Bytes _bytes.now }
 {}

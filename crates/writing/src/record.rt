@@ -6,7 +6,7 @@ ghost use Rattle.cards.specs.Format.{row_width};
 ghost use Rattle.writing.specs.Laws.{Shows};
 ghost use Rattle.writing.specs.Records.{cell_bytes, mark_of, row_bytes, head_bytes, head_record, record_length, write_verdict, write_answer};
 
-use cards::row_width;
+use cards::{RecordKind, row_width};
 use sources::{TableHead, check_range};
 use terms::{Cell, Fault, Refusal};
 
@@ -54,7 +54,8 @@ fn head_bytes(size: usize, number: u8, columns: u8) -> [u8; 6]
     ensures { result ≡ head_bytes size number columns }
 {
     let [l0, l1] = (size as u16).to_le_bytes();
-    [l0, l1, 1, 0, number, columns]
+    let [k0, k1] = (RecordKind::Table as u16).to_le_bytes();
+    [l0, l1, k0, k1, number, columns]
 }
 
 // Fills `out` with the rows that `cells` is made of, one after another.
@@ -66,6 +67,7 @@ fn write_rows(columns: u8, cells: &[Cell], out: &mut [u8])
     ensures { out.new ≡ flat_map row_bytes (rows_in (length cells.now / columns) columns cells.now) }
 {
     let width = row_width(columns);
+    // By its range: of bytes that `chunks_exact_mut` has lent, a proof knows nothing afterwards.
     for (i, row) in cells.chunks_exact(columns as usize).enumerate() {
         write_row(row, &mut out[i * width..(i + 1) * width]);
     }
