@@ -5,13 +5,10 @@ use Rattle.std.proofs.lemmas.Bool.{eq-eqb, ne_eqb}
 use Rattle.std.proofs.lemmas.List.Folds.{list_any-append}
 use Rattle.std.proofs.Math.Bool.{or-false}
 use Rattle.std.specs.List.{range_with_len}
-use Rattle.terms.specs.declared.comparisons.Comparison.{Comparison}
-use Rattle.terms.specs.Comparisons.{mirrored}
 use Rattle.terms.specs.Tables.{Table, Tables, columns_of}
 use Rattle.queries.specs.declared.aggregates.Aggregate.TheVariants.{CountRows}
 use Rattle.queries.specs.declared.nests.Nest.{Nest}
 use Rattle.queries.specs.declared.nests.Nest.TheVariants.{Aggregated, Exists}
-use Rattle.queries.specs.declared.parts.Link.{Link}
 use Rattle.queries.specs.declared.steps.Step.{Step}
 use Rattle.queries.specs.declared.steps.Step.TheVariants.{Restrict, Output}
 use Rattle.meaning.specs.Rows.{some}
@@ -83,26 +80,16 @@ group_one n b c f = or-false (eqb (suc c) b && aggregate_lacking n f.aggregate)
 filter_one : (n b c : ℕ) (f : Flat) → some (filter_lacking b n) (unnest (suc c) c f) ≡ (eqb (suc c) b && operand_lacking n f.operand)
 filter_one n b c f = or-false (eqb (suc c) b && operand_lacking n f.operand)
 
--- the join condition that IN and ANY become
-abbrev any_join : ℕ → Comparison → ℕ → Link
-any_join operand comparison inner = record { column = inner; comparison = mirrored comparison; parent = operand }
-
 -- One inner block: its columns in its own table, and those in its parent's.
 
 module _ (n : ℕ) (i : Inner) where
-  abbrev own_links : Bool
-  own_links = some (λ l. lacks n l.column) i.links
-
-  abbrev parent_links : Bool
-  parent_links = some (λ l. lacks n l.parent) i.links
-
   nest_own : (nest : Nest)
-      → (some (λ x. lacks n x.column) (translated_as i nest).joins || (aggregate_lacking n (translated_as i nest).aggregate || false)) ≡ (own_links || some (lacks n) (nest_columns nest))
+      → (some (λ x. lacks n x.column) (translated_as i nest).joins || (aggregate_lacking n (translated_as i nest).aggregate || false)) ≡ (some (λ l. lacks n l.column) i.links || some (lacks n) (nest_columns nest))
   nest_own (Aggregated operand comparison CountRows) = simp (list_any-append, or-false)
   nest_own other = simp (list_any-append, or-false)
 
   nest_parent : (nest : Nest)
-      → (some (λ x. lacks n x.parent) (translated_as i nest).joins || operand_lacking n (translated_as i nest).operand) ≡ (parent_links || some (lacks n) (nest_operands nest))
+      → (some (λ x. lacks n x.parent) (translated_as i nest).joins || operand_lacking n (translated_as i nest).operand) ≡ (some (λ l. lacks n l.parent) i.links || some (lacks n) (nest_operands nest))
   nest_parent Exists = simp (list_any-append, or-false)
   nest_parent other = simp (list_any-append, or-false)
 
