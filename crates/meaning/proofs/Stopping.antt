@@ -1,5 +1,5 @@
 -- Running over stored tables: what is read, where it stops, and the theorem.
-use Rattle.std.proofs.Common.{◌≡◌, ℕ, suc, ◌+◌, List, [], ◌∷◌, ◌++◌, map, length, Some, None, Ok, fold, sum_by, Option, sym, refl, ap, ◌∙◌, ap₂, append_assoc, arith}
+use Rattle.std.proofs.Common.{◌≡◌, ℕ, suc, ◌+◌, List, [], ◌∷◌, ◌++◌, map, length, Some, None, fold, sum_by, Option, sym, refl, ap, ◌∙◌, append_assoc, arith}
 use Rattle.std.specs.Option.{option_map}
 use Rattle.std.proofs.lemmas.List.Sums.{fold-append, sum_by-cons, sum_by-append}
 use Rattle.terms.specs.declared.comparisons.Comparison.TheVariants.{Equal}
@@ -116,11 +116,9 @@ module _ (tables : Tables) where
         let v : Visit = record { block = b; table = f.table } in
         let vs : List Visit = flat_visits (suc b) fs in
         let before : State = restricted db house (suc b) fs s in
-        fold-append (go p tables house) (on s) (restricts (suc b) fs) (Restrict b b ∷ [])
-        ∙ ap (λ g. go p tables house g (Restrict b b)) (restricts-go fs (suc b) s places.4)
-        ∙ next (first_met tables vs s.reads) before (restrict before b f.tests (db f.table)) (last-met v (s.reads + sum_by rows_at vs))
-        (λ none. one_restrict b f before _ (restricted_reads house fs (suc b) s none) places.0 (restrict_is p db house b f before places.0 places.1))
-        ∙ ap (λ m. carried m (restricted db house b (f ∷ fs) s)) (sym (met-push vs v s.reads))
+        rw (fold-append (go p tables house) (on s) (restricts (suc b) fs) (Restrict b b ∷ []), restricts-go fs (suc b) s places.4, met-push vs v s.reads)
+        (next (first_met tables vs s.reads) before (restrict before b f.tests (db f.table)) (last-met v (s.reads + sum_by rows_at vs))
+        (λ none. one_restrict b f before _ (restricted_reads house fs (suc b) s none) places.0 (restrict_is p db house b f before places.0 places.1)))
       where
         next : (m : Option Stop) (before after : State) (last : Option Stop) → (m ≡ None → go p tables house (on before) (Restrict b b) ≡ carried last after) → go p tables house (carried m before) (Restrict b b) ≡ carried (or_later m last) after
         next None before after last h = h refl
@@ -162,18 +160,16 @@ module _ {Total : Type 0} (tables : Tables) (house : Meaning Total) (q : Query) 
 
   ends : (m : Option Stop) → first_met tables (visits q) 0 ≡ m → outcome (fold (go (plan q) tables house) (carried tables house (plan q) m (all_restricted (contents tables) house q)) last) ≡ unless m (nested (contents tables) house q, row_counts tables q)
   ends None e =
-      ap outcome (rest (all_restricted (contents tables) house q))
-      ∙ ap₂ (λ rows n. Ok (rows, n)) (writes_nested (contents tables) house q) (reads_all e)
+      rw (rest (all_restricted (contents tables) house q), writes_nested (contents tables) house q, reads_all e)
   ends (Some x) e = ap outcome (stays tables house (plan q) last x)
 
   -- running the plan of a query answers what nested iteration gives
   pub flat_is_nested : ran (plan q) tables house ≡ answers tables house q
   flat_is_nested =
-      let first : Going = fold (go (plan q) tables house) (on nothing) (restricts 0 (outer ∷ flats)) in
-      let m : Option Stop = first_met tables (visits q) 0 in
-      ap (λ steps. outcome (fold (go (plan q) tables house) (on nothing) steps)) steps_split
-      ∙ ap outcome (fold-append (go (plan q) tables house) (on nothing) (restricts 0 (outer ∷ flats)) last)
-      ∙ ap (λ g. outcome (fold (go (plan q) tables house) g last))
-      (restricts-go tables house (plan q) (outer ∷ flats) 0 nothing (refl, refl, refl, refl, plan_placed q)
-      ∙ ap (λ vs. carried tables house (plan q) (first_met tables vs 0) (all_restricted (contents tables) house q)) visits_are)
-      ∙ ends m refl
+      rw (
+        steps_split,
+        fold-append (go (plan q) tables house) (on nothing) (restricts 0 (outer ∷ flats)) last,
+        restricts-go tables house (plan q) (outer ∷ flats) 0 nothing (refl, refl, refl, refl, plan_placed q),
+        visits_are,
+      )
+      (ends (first_met tables (visits q) 0) refl)

@@ -7,9 +7,9 @@ use Rattle.std.proofs.lemmas.Bool.{eq-eqb, ne_eqb, cond-true, cond-false}
 use Rattle.std.proofs.lemmas.List.Elements.{All-weaker}
 use Rattle.terms.specs.Cells.{Cell, Row}
 use Rattle.terms.specs.Comparisons.{holds}
-use Rattle.meaning.specs.Rows.{Contents, cells, alike, some}
+use Rattle.meaning.specs.Rows.{Contents, alike, some}
 use Rattle.meaning.specs.Aggregates.{Meaning, Answer, aggregated}
-use Rattle.meaning.specs.Queries.{Query, tests_true, judged, nested}
+use Rattle.meaning.specs.Queries.{Query, tests_true, nested}
 use Rattle.meaning.specs.Plans.{Flat, translated}
 use Rattle.meaning.specs.Running.{Group, State, nothing, put, restrict, tuple_of, distinct, unanswered, project, joins_true, group_answer, with_answer, group, operand_of, passes, filter, output}
 use Rattle.meaning.proofs.Lists.{kept_all, kept_both, kept_same}
@@ -106,13 +106,9 @@ module _ {Total : Type 0} (db : Contents) (house : Meaning Total) where
   pub writes_nested : (q : Query) → (all_unnested q).written ≡ nested db house q
   writes_nested q =
       let flats : List Flat = map translated q.inner in
-      let rows : List Row = kept_by (tests_true q.tests) (db q.table) in
       let first : State = restricted 1 flats nothing in
-      let loaded : Loaded 1 flats (all_restricted q).kept = loaded_put flats 1 first.kept 0 rows (omega arith) (restricted_loads flats 1 nothing) in
-      ap (map (cells q.outputs))
-      ((unnested_keeps flats 0 (all_restricted q) loaded).0
-      ∙ ap (λ p. kept_by p rows) (fun_ext (same_judgement db house q.inner))
-      ∙ kept_both (judged db house q.inner) (tests_true q.tests) (db q.table))
+      let loaded : Loaded 1 flats (all_restricted q).kept = loaded_put flats 1 first.kept 0 _ (omega arith) (restricted_loads flats 1 nothing) in
+      simp ((unnested_keeps flats 0 (all_restricted q) loaded).0, fun_ext (same_judgement db house q.inner), kept_both)
 
   -- no step but RESTRICT reads
   pub unnested_reads : (fs : List Flat) (p : ℕ) (s : State) → (unnested p fs s).reads ≡ s.reads
