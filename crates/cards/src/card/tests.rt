@@ -49,9 +49,7 @@ fn fetch_fails(rt: &impl Abort, card: &mut Card<'_>, table: u8, row: usize, refu
 #[test]
 fn an_image_too_long(rt: HostRuntime) {
     let mut image = [0; 65_537];
-    image[0] = 0xfc;
-    image[1] = 0xff;
-    image[2] = 2;
+    image[..3].copy_from_slice(&[0xfc, 0xff, 2]);
     loads(&rt, &image[0..65_536]);
     refuses(&rt, &image, Refusal::ImageTooLong, 0);
 }
@@ -97,12 +95,8 @@ fn row_counts(rt: HostRuntime) {
         0,
     );
     let mut image = [0; 5_131];
-    image[2] = 1;
-    image[4] = 1;
-    image[5] = 1;
     // 1,024 rows of five bytes and the two of the head, then one row more
-    image[0] = 0x02;
-    image[1] = 0x14;
+    image[..6].copy_from_slice(&[0x02, 0x14, 1, 0, 1, 1]);
     loads(&rt, &image[0..5_126]);
     image[0] = 0x07;
     refuses(&rt, &image, Refusal::BadRowCount, 0);
