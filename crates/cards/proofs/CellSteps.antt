@@ -1,5 +1,6 @@
 -- The cells of a row, four bytes each, one after another.
-use Rattle.std.proofs.Common.{◌≡◌, ℕ, zero, suc, ◌+◌, ◌-◌, ◌*◌, ◌/◌, ◌%◌, ◌^◌, ◌<◌, ◌≤◌, ◌&&◌, ◌||◌, eqb, Bool, List, [], ◌∷◌, ◌++◌, length, get_or, take, drop, set, replicate, None, sym, refl, ap, ◌∙◌, pow-suc, add-one, zero-add, arith}
+use Rattle.std.specs.Prelude.{if◌then◌else◌}
+use Rattle.std.proofs.Common.{cond, not, true, false, Option, ◌≡◌, ℕ, zero, suc, ◌+◌, ◌-◌, ◌*◌, ◌/◌, ◌%◌, ◌^◌, ◌<◌, ◌≤◌, ◌&&◌, ◌||◌, eqb, Bool, List, [], ◌∷◌, ◌++◌, length, get_or, take, drop, set, replicate, None, sym, refl, ap, ◌∙◌, pow-suc, add-one, zero-add, arith}
 use native.Mathlib.Nat.{div-div-eq-div-mul}
 use Rattle.std.proofs.Math.Bool.{and_assoc}
 use Rattle.std.proofs.lemmas.List.{append_assoc, take_more, length-take-le, drop-drop, set_at}
@@ -69,3 +70,8 @@ all_pass n mark bs =
     ap (λ m. list_all (cell_passes mark) (enumerate_from 0 (first_chunks 4 n bs)) && eqb (mark / 2 ^ m) 0) (sym (zero-add n))
     ∙ cells_pass n 0 mark bs
     ∙ ap (λ m. cells_right n m bs) (omega arith)
+
+-- a cell by its bit of the mark, as the code tests the bit
+pub by_bit : {X : Type 0} (clear absent : Bool) (x : Option X) → absent ≡ not clear → (if absent then None else x) ≡ cond clear x None
+by_bit true absent x e = rw e
+by_bit false absent x e = rw e

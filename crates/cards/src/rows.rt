@@ -2,7 +2,7 @@
 ghost use Rattle.std.specs.Prelude.{◌≡◌, ◌≤◌, length};
 ghost use Rattle.cards.specs.Format.{row_width};
 
-use crate::cells::{cells_right, read_cells};
+use crate::cells::MarkedCells;
 use terms::{Cell, MAX_COLUMNS};
 
 // A row's bytes: a mark, and four for each column.
@@ -24,8 +24,15 @@ impl RowBytes<'_> {
     pub(crate) fn is_right(self) -> bool
         ensures { result ≡ row_right self.entry.columns self.entry.bytes.now }
     {
+        let columns = self.columns;
         match self.bytes {
-            [mark, cells @ ..] => *mark >= 128 || cells_right(self.columns, *mark, cells),
+            [mark, ..] if *mark >= 128 => true,
+            [mark, bytes @ ..] => MarkedCells {
+                columns,
+                mark: *mark,
+                bytes,
+            }
+            .are_right(),
             [] => true,
         }
     }
@@ -34,8 +41,14 @@ impl RowBytes<'_> {
     pub(crate) fn read(self) -> Option<[Cell; MAX_COLUMNS]>
         ensures { result ≡ option_map six_cells (as_row self.entry) }
     {
+        let columns = self.columns;
         match self.bytes {
-            [mark, cells @ ..] if *mark < 128 => Some(read_cells(self.columns, *mark, cells)),
+            [mark, bytes @ ..] if *mark < 128 => Some(MarkedCells {
+                columns,
+                mark: *mark,
+                bytes,
+            }
+            .read()),
             _ => None,
         }
     }
