@@ -28,7 +28,7 @@ impl TryFrom<u16> for RecordKind {
     }
 }
 
-// A record's head, taken off what is left of an image, and what follows it.
+// A record's head, taken off what is left of an image, and what follows it. The kind may be one that is no `RecordKind`.
 #[derive(Clone, Copy)]
 pub(crate) struct RecordHead<'a> {
     pub(crate) size: usize,

@@ -5,6 +5,7 @@ use crate::format::record_head;
 
 // A record: where its first byte stands in the image, its bytes, the size and the kind that its head gives, and its payload,
 // which is shorter than the size where the image ends too early.
+// The kind is a number still: a record that goes on past the end is refused before its kind is looked at.
 #[derive(Clone, Copy)]
 pub(crate) struct Record<'a> {
     pub(crate) place: usize,

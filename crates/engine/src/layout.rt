@@ -15,8 +15,8 @@ pub struct Region {
     pub width: usize,
 }
 
-// The regions of the kept rows of each block, and those of each inner block's tuples, by the block's number. The two kinds
-// lie in two parts of work memory.
+// The regions of the kept rows of each block, and those of each inner block's tuples, by the block's number. Two arrays and
+// not one of pairs, since the two kinds lie in two parts of work memory.
 #[derive(Clone, Copy)]
 pub struct Layout {
     pub kept: [Region; 4],

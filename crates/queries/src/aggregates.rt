@@ -43,7 +43,7 @@ impl From<Function> for u8 {
     }
 }
 
-// The function with a number; outside 1 to 5 there is none.
+// The function with a number; outside 1 to 5 there is none. Each enum lists its own cases: no derive makes a `TryFrom`.
 impl TryFrom<u8> for Function {
     type Error = Refusal;
 

@@ -51,7 +51,7 @@ impl From<Form> for u8 {
     }
 }
 
-// The form with a number; outside 1 to 6 there is none.
+// The form with a number; outside 1 to 6 there is none. Each enum lists its own cases: no derive makes a `TryFrom`.
 impl TryFrom<u8> for Form {
     type Error = Refusal;
 

@@ -76,6 +76,8 @@ fn constant_in_range(number: i64) -> Result<i32, Refusal>
     i32::try_from(number).map_err(|_| Refusal::OutOfRange)
 }
 
+// A test and a link are read each by itself, since they are two types: they are alike but for what the column is compared
+// with, and that is what has a range of its own.
 fn read_test(column: u8, comparison: u8, constant: i64) -> Result<Test, Refusal>
     ensures { result ≡ or_out_of_range (read_test column comparison constant) }
 {
@@ -96,7 +98,7 @@ fn read_link(column: u8, comparison: u8, parent: u8) -> Result<Link, Refusal>
     })
 }
 
-// Each form looks at its own parts alone.
+// Each form looks at its own parts alone. The numbers come one by one, as the entry has them.
 fn read_nest(form: u8, operand: u8, comparison: u8, code: u8, inner: u8) -> Result<Nest, Refusal>
     ensures { result ≡ or_out_of_range (read_nest form operand comparison code inner) }
 {

@@ -86,7 +86,8 @@ fn write_row(cells: &[Cell], out: &mut [u8])
     }
 }
 
-// The mark byte of a row: a bit for each absent cell.
+// The mark byte of a row: a bit for each absent cell. That a row has six cells at most is asked of the slice and is in no type:
+// the recursion takes the slice apart.
 #[tactic(auto, using(crate::proofs::Marks::mark_small, std::proofs::lemmas::Grind::common_steps))]
 fn mark_of(cells: &[Cell]) -> u8
     requires { length cells.now ≤ 6 }

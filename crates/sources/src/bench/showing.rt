@@ -69,7 +69,7 @@ impl<'a> Bench<'a> {
     }
 }
 
-// A row's cells, and absent ones after them.
+// A row's cells, which are six at most, and absent ones after them.
 fn in_place(row: &[Cell]) -> [Cell; MAX_COLUMNS]
     requires { length row.now ≤ 6 }
     ensures { result ≡ six_cells row.now }
