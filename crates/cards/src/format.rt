@@ -14,6 +14,7 @@ pub enum RecordKind {
     Remark = 2,
 }
 
+// Each enum lists its own cases: no derive makes a `TryFrom`.
 impl TryFrom<u16> for RecordKind {
     type Error = Refusal;
 

@@ -30,7 +30,8 @@ fn operand_of(operand: Operand, row: &[WorkCell]) -> Option<i64>
     }
 }
 
-// Keeps, in place and in order, the rows whose operand compares true with the answer of their tuple.
+// Keeps, in place and in order, the rows whose operand compares true with the answer of their tuple. The rows are lent
+// beside their extent, because they are overwritten in place.
 pub(crate) fn filter(
     joins: &[Link],
     operand: Operand,

@@ -51,8 +51,8 @@ fn group_one<A: AggregateFunction>(
     A::answer(&total)
 }
 
-// Writes the answer of each tuple behind it. The keys are lent beside their number and not as Groups, because they are
-// overwritten in place.
+// Writes the answer of each tuple behind it. The keys are lent beside their number and not as Groups, here and in
+// group_by: they are overwritten in place, and a type over a `&mut` would be taken apart again at each write.
 fn group<A: AggregateFunction>(
     joins: &[Link],
     aggregate: Aggregate,

@@ -16,7 +16,7 @@ pub struct Region {
 }
 
 // The regions of the kept rows of each block, and those of each inner block's tuples, by the block's number. Two arrays and
-// not one of pairs, since the two kinds lie in two parts of work memory.
+// not one of pairs: each kind is laid out by itself, one region behind the other, and block 0 has no tuples.
 #[derive(Clone, Copy)]
 pub struct Layout {
     pub kept: [Region; 4],

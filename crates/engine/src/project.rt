@@ -26,7 +26,7 @@ fn store_tuple(joins: &[Link], row: &[WorkCell], keys: &mut [WorkCell], at: usiz
     requires room { at + length joins.now ≤ length keys.old }
     ensures cells { values keys.new ≡ paste (values keys.old) at (tuple_of joins.now (values row.now)) (length joins.now) }
 {
-    // By index: a proof knows nothing of the cells once a zip with iter_mut has written them.
+    // By index, as OUTPUT writes its rows: a proof knows nothing of the cells once a zip with iter_mut has written them.
     for (i, join) in joins.iter().enumerate() {
         keys[at + i] = WorkCell {
             value: cell_at(row, join.parent),
@@ -50,6 +50,7 @@ pub(crate) fn project(joins: &[Link], rows: Rows, keys: &mut [WorkCell]) -> usiz
             count: tuples,
             tuple_len: len,
         };
+        // A loop and no `any`: a rule of the project, PROJECT goes on with the next row from inside.
         for group in groups {
             if same_tuple(joins, row, group.tuple) {
                 continue 'rows;

@@ -19,9 +19,7 @@ use terms::{Cell, Fault, MAX_COLUMNS, WorkCell};
 fn widened(row: &[Cell; MAX_COLUMNS]) -> [WorkCell; MAX_COLUMNS]
     ensures value { values result ≡ row.now }
 {
-    row.map(|cell| WorkCell {
-        value: cell.map(i64::from),
-    })
+    row.map(WorkCell::from)
 }
 
 fn test_true(test: Test, row: &[WorkCell]) -> bool

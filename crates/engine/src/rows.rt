@@ -8,7 +8,7 @@ ghost use Rattle.engine.specs.Rows.{values};
 use terms::{Cell, WorkCell};
 
 // So many rows of so many cells. As an iterator it gives them from the first one on. It is Copy, since GROUP goes over the
-// same rows for each tuple.
+// same rows for each tuple, and no `chunks_exact`, since a row may have no cells.
 #[derive(Clone, Copy)]
 pub(crate) struct Rows<'a> {
     pub(crate) cells: &'a [WorkCell],
@@ -98,7 +98,7 @@ pub(crate) fn cell_at(row: &[WorkCell], column: u8) -> Option<i64>
         .and_then(|cell| cell.value)
 }
 
-// A work cell that came from a table, as a table's cell again.
+// A work cell that came from a table, as a table's cell again. By `as`: it fits, and a `TryFrom` could fail.
 fn narrowed(cell: Option<i64>) -> Cell
     requires ranged { cell_in_range cell ≡ true }
     ensures value { result ≡ cell }

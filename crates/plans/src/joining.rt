@@ -43,7 +43,8 @@ fn inner_block(block: &InnerBlock, parent: u8) -> TranslatedBlock
     }
 }
 
-// The blocks inside block `parent`, from its child inward.
+// The blocks inside block `parent`, from its child inward. By recursion and no `for`: a rule of the project, so that
+// translating goes as its definition does.
 pub(crate) fn inner_blocks(
     inner: &[InnerBlock],
     parent: u8,

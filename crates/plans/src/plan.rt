@@ -6,7 +6,8 @@ use crate::blocks::TranslatedQuery;
 
 mod calls;
 
-// A place for a plan: empty, or the translation of some finished sheet. No other value exists.
+// A place for a plan: empty, or the translation of some finished sheet. No other value exists. What it means is `plan_of`,
+// and no `Model`, because it is `Copy` and holds bounded lists.
 #[derive(Clone, Copy)]
 pub struct Plan {
     translated: Option<TranslatedQuery>,

@@ -10,7 +10,8 @@ use bounded::Bounded;
 use queries::Step;
 use sheets::InnerBlock;
 
-// RESTRICT for the inner blocks, which are numbered from `block`.
+// RESTRICT for the inner blocks, which are numbered from `block`, the innermost first. By recursion and no `for`: a rule of
+// the project, so that translating goes as its definition does.
 pub(crate) fn restrict_steps(inner: &[InnerBlock], block: u8, steps: &mut Bounded<Step, 14>)
     requires room { length (listed steps.old) + length inner.now ≤ 14 }
     requires numbered { block + length inner.now ≤ 4 }
@@ -51,7 +52,7 @@ fn block_steps(block: &InnerBlock, parent: u8) -> [Step; 3]
     ]
 }
 
-// The same for all blocks inside block `parent`.
+// The same for all blocks inside block `parent`, the innermost first and by recursion too.
 pub(crate) fn unnest_steps(inner: &[InnerBlock], parent: u8, steps: &mut Bounded<Step, 14>)
     requires room { length (listed steps.old) + 3 * length inner.now ≤ 14 }
     requires numbered { parent + length inner.now ≤ 3 }

@@ -1,5 +1,5 @@
 // The conditions of a block on its rows. A test and a link are two types, and no generic one, so that what a column is
-// compared with has a name of its own in each.
+// compared with has a name of its own in each: a constant, or a column of another block.
 use terms::Comparison;
 
 // A test: a column of the block against a constant.

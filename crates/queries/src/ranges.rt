@@ -54,6 +54,7 @@ impl TryFrom<Entry> for Part {
     }
 }
 
+// Two functions of two lines, and no one over the test, so that a reading says which range it asks for.
 fn table_in_range(number: u8) -> Result<u8, Refusal>
     ensures { result ≡ or_out_of_range (table_in_range number) }
 {
@@ -76,8 +77,7 @@ fn constant_in_range(number: i64) -> Result<i32, Refusal>
     i32::try_from(number).map_err(|_| Refusal::OutOfRange)
 }
 
-// A test and a link are read each by itself, since they are two types: they are alike but for what the column is compared
-// with, and that is what has a range of its own.
+// A test and a link are read each by itself, since they are two types, whose last part has a range of its own in each.
 fn read_test(column: u8, comparison: u8, constant: i64) -> Result<Test, Refusal>
     ensures { result ≡ or_out_of_range (read_test column comparison constant) }
 {

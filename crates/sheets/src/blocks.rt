@@ -13,7 +13,8 @@ pub struct InnerBlock {
     pub links: Bounded<Link, 3>,
 }
 
-// Block 0, the inner blocks from its child inward, and the output columns of block 0.
+// Block 0, the inner blocks from its child inward, and the output columns of block 0. What it means is `query_of`, and no
+// `Model`, because it is `Copy` and holds bounded lists.
 #[derive(Clone, Copy)]
 pub struct SheetQuery {
     pub table: u8,

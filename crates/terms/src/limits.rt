@@ -8,7 +8,7 @@ pub const MAX_COLUMNS: usize = 6;
 // A table has at most so many rows.
 pub const MAX_ROWS: usize = 1_024;
 
-// Whether a table may have this number.
+// Whether a table may have this number. Each range has a function of its own: one over any range would be `contains`.
 pub fn is_table(number: u8) -> bool
     ensures { result ≡ is_table number }
 {

@@ -26,6 +26,7 @@ pub enum Refusal {
     NoSuchRow = 34,
 }
 
+// By `as`, for each enum anew: no derive makes a `From`.
 impl From<Refusal> for u8 {
     ghost from_gives = { λ refusal number. number ≡ refusal_number refusal };
 

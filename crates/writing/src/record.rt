@@ -73,7 +73,8 @@ fn write_rows(columns: u8, cells: &[Cell], out: &mut [u8])
     }
 }
 
-// Fills `out` with one row.
+// Fills `out` with one row, each cell by its place: of bytes that `chunks_exact_mut` has lent, a proof knows nothing
+// afterwards. That there are six cells at most is in no type, as a head's columns are a plain number.
 fn write_row(cells: &[Cell], out: &mut [u8])
     requires few { length cells.now ≤ 6 }
     requires room { length out.old ≡ row_width (length cells.now) }
@@ -86,8 +87,8 @@ fn write_row(cells: &[Cell], out: &mut [u8])
     }
 }
 
-// The mark byte of a row: a bit for each absent cell. That a row has six cells at most is asked of the slice and is in no type:
-// the recursion takes the slice apart.
+// The mark byte of a row: a bit for each absent cell. By recursion and no fold from the back, whose sums would each need a
+// bound of their own.
 #[tactic(auto, using(crate::proofs::Marks::mark_small, std::proofs::lemmas::Grind::common_steps))]
 fn mark_of(cells: &[Cell]) -> u8
     requires { length cells.now ≤ 6 }

@@ -1,6 +1,6 @@
 // The calls on a plan place.
 ghost use Rattle.std.specs.Prelude.{◌≡◌, not, is_some, None};
-ghost use Rattle.std.specs.Option.{option_copied, option_map};
+ghost use Rattle.std.specs.Option.{option_map};
 ghost use Rattle.meaning.specs.Spelling.{finished};
 ghost use Rattle.sheets.specs.Held.{query_of};
 ghost use Rattle.sheets.specs.Sheets.{sheet_of};
@@ -26,10 +26,10 @@ impl Plan {
     }
 
     // What the place holds; None where it is empty.
-    pub fn translated(&self) -> Option<&TranslatedQuery>
-        ensures { option_copied result ≡ self.now.translated }
+    pub fn translated(&self) -> Option<TranslatedQuery>
+        ensures { result ≡ self.now.translated }
     {
-        self.translated.as_ref()
+        self.translated.as_ref().copied()
     }
 
     // Translates a finished sheet, in place of whatever was here; an unfinished one is refused, and the place is as it was.

@@ -9,6 +9,7 @@ use crate::blocks::{InnerBlock, SheetQuery};
 use bounded::Bounded;
 use queries::{Link, Nest, Part, Test};
 
+// Tests and links are added each by itself: they go to lists of their own, under limits of their own.
 impl InnerBlock {
     fn new(nest: Nest, table: u8) -> InnerBlock
         ensures { inner_of result ≡ fresh_inner nest table }

@@ -1,4 +1,5 @@
-// The bench as a source.
+// The bench as a source. It fetches as the card does but for unreadable rows, of which it has none; a fetch that is the
+// trait's own would ask more of every source.
 ghost use Rattle.std.specs.Prelude.{◌≡◌, ◌≤◌, [], length, IfSome, Some};
 ghost use Rattle.std.specs.Option.{option_map};
 ghost use Rattle.terms.specs.Tables.{row_at};
@@ -69,7 +70,8 @@ impl<'a> Bench<'a> {
     }
 }
 
-// A row's cells, which are six at most, and absent ones after them.
+// A row's cells, and absent ones after them. That there are six at most is in no type: a head's columns are a plain number,
+// which the caller gives.
 fn in_place(row: &[Cell]) -> [Cell; MAX_COLUMNS]
     requires { length row.now ≤ 6 }
     ensures { result ≡ six_cells row.now }
