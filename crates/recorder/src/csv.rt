@@ -1,5 +1,6 @@
 // Tables as comma-separated values: a line for each row, an empty field for an absent cell.
 use crate::copying::PlainTable;
+use crate::joining::write_joined;
 use sources::Shape;
 use std::alloc::{AllocError, Global};
 use std::fmt;
@@ -82,13 +83,19 @@ impl fmt::Display for PlainTable {
 }
 
 fn write_line<W: fmt::Write>(f: &mut fmt::Formatter<W>, row: &[Cell]) -> fmt::Result {
-    for (i, cell) in row.iter().enumerate() {
-        if i > 0 {
-            f.write_str(",")?;
-        }
-        if let Some(number) = cell {
-            write!(f, "{number}")?;
+    write_joined(f, "", ",", row.iter().copied().map(Field))?;
+    f.write_str("\n")
+}
+
+// A cell as comma-separated values have it.
+#[derive(Clone, Copy)]
+struct Field(Cell);
+
+impl fmt::Display for Field {
+    fn fmt<W: fmt::Write>(&self, f: &mut fmt::Formatter<W>) -> fmt::Result {
+        match self.0 {
+            Some(number) => write!(f, "{number}"),
+            None => Ok(()),
         }
     }
-    f.write_str("\n")
 }

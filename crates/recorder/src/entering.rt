@@ -1,4 +1,5 @@
 // A query entered on a sheet, and the sheet in a form close to SQL.
+use crate::joining::write_joined;
 use queries::{Entry, Link, Nest, Test};
 use sheets::{InnerBlock, Sheet, SheetQuery};
 use std::fmt;
@@ -41,11 +42,9 @@ impl fmt::Display for Listing<'_> {
 }
 
 fn write_outermost<W: fmt::Write>(f: &mut fmt::Formatter<W>, query: &SheetQuery) -> fmt::Result {
+    let outputs = query.outputs.as_slice().iter().copied().map(Column);
     f.write_str("  block 0: SELECT ")?;
-    for (i, column) in query.outputs.as_slice().iter().enumerate() {
-        let before = if i == 0 { "" } else { ", " };
-        write!(f, "{before}C{column}")?;
-    }
+    write_joined(f, "", ", ", outputs)?;
     let table = query.table;
     write!(f, " FROM T{table}")?;
     write_conditions(f, query.tests.as_slice(), &[], nested(query, 0))
@@ -61,6 +60,17 @@ fn write_inner<W: fmt::Write>(
     let table = block.table;
     write!(f, "  block {number}: SELECT {item} FROM T{table}")?;
     write_conditions(f, block.tests.as_slice(), block.links.as_slice(), nested)
+}
+
+// A column of a block.
+#[derive(Clone, Copy)]
+struct Column(u8);
+
+impl fmt::Display for Column {
+    fn fmt<W: fmt::Write>(&self, f: &mut fmt::Formatter<W>) -> fmt::Result {
+        let number = self.0;
+        write!(f, "C{number}")
+    }
 }
 
 // What a row of a block is tested for.
@@ -95,10 +105,7 @@ fn write_conditions<W: fmt::Write>(
     let tests = tests.iter().copied().map(Condition::Test);
     let links = links.iter().copied().map(Condition::Link);
     let nested = nested.map(Condition::Nested);
-    for (i, condition) in tests.chain(links).chain(nested).enumerate() {
-        let before = if i == 0 { " WHERE " } else { " AND " };
-        write!(f, "{before}{condition}")?;
-    }
+    write_joined(f, " WHERE ", " AND ", tests.chain(links).chain(nested))?;
     f.write_str("\n")
 }
 

@@ -10,6 +10,7 @@ mod commands;
 mod copying;
 mod csv;
 mod entering;
+mod joining;
 mod refusals;
 mod tables;
 
