@@ -33,6 +33,7 @@ pub(crate) struct PlainTable {
 
 impl PlainTable {
     // The table with a number; None where there is none.
+    // Not over FetchedTable: this one stops at the first unreadable row, and has no widths; what both do is fetch_row.
     pub(crate) fn fetch<S: Source>(
         heap: Global,
         source: &mut S,
@@ -65,7 +66,7 @@ impl PlainTable {
             first: 0,
             rows: self.shape.rows,
         };
-        // A record is written into a lent buffer, so the longest is made and then cut.
+        // Only write_table knows how long a record is, and it wants the buffer first: so the longest is made, and then cut.
         let mut record = vec![in heap; 0u8; LONGEST_RECORD]?;
         let size = write_table(head, &self.cells, &mut record).map_err(
             |fault| CopyError::RefusedTable {

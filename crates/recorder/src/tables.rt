@@ -7,6 +7,7 @@ use terms::{Cell, Fault, MAX_COLUMNS};
 // The cells of a row, and absent ones after them.
 pub(crate) type Row = [Cell; MAX_COLUMNS];
 
+// A list, since a Display that writes a C and then a number would have to pad by itself: `pad` takes one text.
 const HEADINGS: [&str; MAX_COLUMNS] = ["C1", "C2", "C3", "C4", "C5", "C6"];
 
 // A table with each row fetched once: None for one that is unreadable. Each column has a width to be shown in.
@@ -19,6 +20,7 @@ pub(crate) struct FetchedTable {
 
 impl FetchedTable {
     // The table with a number; None where there is none.
+    // Not over PlainTable: this one keeps an unreadable row, to show it, and fetches the rows behind it.
     pub(crate) fn fetch<S: Source>(
         heap: Global,
         source: &mut S,
