@@ -26,7 +26,7 @@ BY_TEXT = {
     '3a while': r'^ *(while |loop )',
     '3b an index that counts up in a range': r"for [a-z]\w* in 0\.\.",
     '3c a counter or a place moved on by hand': r'^\s*\w+ (\+= [1-9]\w*|\+= row_width[^;]*|/= 2|= \w+\.saturating_add\(1\));',
-    '3d a search or a test of all by a loop': r'for [^\n]*\{\n\s*(if|let)[^}]*return (false|Some|true|key)',
+    '3d a search or a test of all by a loop': r'for [^\n]*\{\n\s*(if|let)[^}]*(return (false|Some|true|key)|continue \')',
     '3e elements written one by one': r'\w+\[[\w +]+\] = ',
     '4a Copy, Clone or a comparison by hand': r'impl<?[^\n]*\b(Copy|Clone|PartialEq|Eq|PartialOrd|Ord) for|fn same_\w+',
     '4b a conversion by hand': r'fn number\(|fn numbered\(|fn code\(|Some\((\w+)\) => Some\(\1 as|Err\(\w+\) => Err\(\w*[:!(]|fn number_of|fn (narrowed|widened)\(',
