@@ -35,7 +35,8 @@ fn tests_true(tests: &[Test], row: &[WorkCell]) -> bool
     tests.iter().all(|test| test_true(*test, row))
 }
 
-// Writes the row's first cells from a place on.
+// Writes the row's first cells from a place on. The width is a plain number, as an extent's is: that it is six at most is in no
+// type.
 fn store(row: &[WorkCell; MAX_COLUMNS], width: usize, cells: &mut [WorkCell], at: usize)
     requires width { width ≤ 6 }
     requires within { at + width ≤ length cells.old }

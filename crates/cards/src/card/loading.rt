@@ -80,6 +80,7 @@ fn check_table(payload: &[u8]) -> Result<(), Refusal>
     check_rows(*columns, rows)
 }
 
+// The columns are a plain number, as the image holds it: that there are six at most is in no type but that of a row.
 fn check_rows(columns: u8, rows: &[u8]) -> Result<(), Refusal>
     requires { columns ≤ 6 }
     ensures { result ≡ rows_verdict columns rows.now }

@@ -1,4 +1,5 @@
-// The card as a source.
+// The card as a source. It fetches as the bench does but for unreadable rows; a fetch that is the trait's own would ask more of
+// every source.
 ghost use Rattle.std.specs.Prelude.{◌≡◌};
 ghost use Rattle.std.specs.Option.{option_map};
 ghost use Rattle.cards.specs.CardTables.{card_tables, raw_table};
