@@ -73,7 +73,8 @@ fn group<A: AggregateFunction>(
 }
 
 // Writes the answer of each tuple by the aggregate's own function, chosen once for them all. H is the house's. This is a
-// match, since each function has a running total of its own type: no table could hold the five.
+// match, since the functions are types: a table would name the same five instances, and its index would have to be proved
+// in range.
 pub(crate) fn group_by<H: AggregateFunction>(
     joins: &[Link],
     aggregate: Aggregate,

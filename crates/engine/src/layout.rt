@@ -7,7 +7,8 @@ pub struct Extent {
     pub width: usize,
 }
 
-// A part of work memory with room for so many rows, or tuples with their answers, of so many cells.
+// A part of work memory with room for so many rows, or tuples with their answers, of so many cells. Its shape is like that of
+// other types by chance alone.
 #[derive(Clone, Copy)]
 pub struct Region {
     pub start: usize,

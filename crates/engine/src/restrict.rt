@@ -46,7 +46,7 @@ fn store(row: &[WorkCell; MAX_COLUMNS], width: usize, cells: &mut [WorkCell], at
 }
 
 // Fetches each row of a block's table once and keeps those whose tests are true, from the first cell on. An unreadable row
-// stops it, and is told with the block.
+// stops it, and is told with the block. The cells are lent beside their extent, because they are overwritten in place.
 pub(crate) fn restrict<S: Source>(
     source: &mut S,
     block: u8,

@@ -35,7 +35,7 @@ impl Function {
     }
 }
 
-// By `as`, for each enum anew: no derive makes a `From`.
+// By `as`, for each enum anew: no derive makes the `From` that gives an enum's number.
 impl From<Function> for u8 {
     ghost from_gives = { λ function number. number ≡ function_number function };
 

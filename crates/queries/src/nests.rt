@@ -43,7 +43,7 @@ pub enum Nest {
     },
 }
 
-// By `as`, for each enum anew: no derive makes a `From`.
+// By `as`, for each enum anew: no derive makes the `From` that gives an enum's number.
 impl From<Form> for u8 {
     ghost from_gives = { λ form number. number ≡ form_number form };
 

@@ -54,7 +54,7 @@ impl TryFrom<Entry> for Part {
     }
 }
 
-// Two functions of two lines, and no one over the test, so that a reading says which range it asks for.
+// Two functions of one expression each, and no one over the test, so that a reading says which range it asks for.
 fn table_in_range(number: u8) -> Result<u8, Refusal>
     ensures { result ≡ or_out_of_range (table_in_range number) }
 {

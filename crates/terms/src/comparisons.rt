@@ -54,7 +54,7 @@ impl Comparison {
     }
 }
 
-// By `as`, for each enum anew: no derive makes a `From`.
+// By `as`, for each enum anew: no derive makes the `From` that gives an enum's number.
 impl From<Comparison> for u8 {
     ghost from_gives = { λ comparison number. number ≡ comparison_number comparison };
 

@@ -25,7 +25,7 @@ pub struct Fault {
     pub place: usize,
 }
 
-// By `as`, for each enum anew: no derive makes a `From`.
+// By `as`, for each enum anew: no derive makes the `From` that gives an enum's number.
 impl From<Layer> for u8 {
     ghost from_gives = { λ layer number. number ≡ layer_number layer };
 

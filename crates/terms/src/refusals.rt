@@ -26,7 +26,7 @@ pub enum Refusal {
     NoSuchRow = 34,
 }
 
-// By `as`, for each enum anew: no derive makes a `From`.
+// By `as`, for each enum anew: no derive makes the `From` that gives an enum's number.
 impl From<Refusal> for u8 {
     ghost from_gives = { λ refusal number. number ≡ refusal_number refusal };
 
