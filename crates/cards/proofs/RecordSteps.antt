@@ -1,7 +1,7 @@
 -- The records of an image, one after another.
-use Rattle.std.proofs.Common.{◌≡◌, ℕ, zero, suc, ◌+◌, ◌*◌, ◌<◌, ◌≤◌, min, false, ltb, List, [], ◌∷◌, ◌++◌, length, take, drop, refl, ap, ◌∙◌, ⊎_elim, arith, length-drop, length-take, take-add}
-use Rattle.std.proofs.lemmas.Bool.{cases_lt, le-ltb}
-use Rattle.std.proofs.lemmas.List.{take_min, drop_min, drop_all}
+use Rattle.std.proofs.Common.{◌≡◌, ℕ, zero, suc, ◌+◌, ◌*◌, ◌≤◌, false, ltb, List, [], ◌∷◌, ◌++◌, length, take, drop, refl, ap, ◌∙◌, arith, length-drop, length-take, take-add}
+use Rattle.std.proofs.lemmas.Bool.{le-ltb}
+use Rattle.std.proofs.lemmas.List.{take_min}
 use Rattle.cards.specs.Format.{CardRecord, cut, records, left}
 use Rattle.cards.specs.Heads.{size_at, kind_at, Headed}
 use Rattle.cards.specs.Verdicts.{records_verdict, card_verdict}
@@ -36,31 +36,20 @@ left_next place (l0 ∷ (l1 ∷ (k0 ∷ (k1 ∷ rest)))) h =
     ap (λ rs. record_at place bs ∷ rs)
     (cut_fuel (suc (suc (suc (length rest)))) (length (drop (size_at bs) rest)) (place + (4 + size_at bs)) (drop (size_at bs) rest) (simp length-drop (omega arith)) (omega arith))
 
--- where a record's payload ends before its size, nothing is left of the image
-next_place : (place size : ℕ) (tail : List ℕ) → left (place + (4 + length (take size tail))) (drop size tail) ≡ left (place + (4 + size)) (drop size tail)
-next_place place size tail =
-    ⊎_elim
-    (λ (l : length tail < size). let none : drop size tail ≡ [] = drop_all size tail (omega arith) in rw none refl)
-    (λ (h : size ≤ length tail). let long : length (take size tail) ≡ size = rw length-take (omega arith) in rw long refl)
-    (cases_lt (length tail) size)
-
 -- the record at the front, its bytes in one piece
-left_here : (place : ℕ) (bs : List ℕ) → 4 ≤ length bs → left place bs ≡ record { place = place; bytes = take (4 + length (take (size_at bs) (drop 4 bs))) bs; size = size_at bs; kind = kind_at bs; payload = take (size_at bs) (drop 4 bs) } ∷ left (place + length (take (4 + length (take (size_at bs) (drop 4 bs))) bs)) (drop (size_at bs) (drop 4 bs))
+left_here : (place : ℕ) (bs : List ℕ) → 4 ≤ length bs → left place bs ≡ record { place = place; bytes = take (4 + length (take (size_at bs) (drop 4 bs))) bs; size = size_at bs; kind = kind_at bs; payload = take (size_at bs) (drop 4 bs) } ∷ left (place + 4 + size_at bs) (drop (size_at bs) (drop 4 bs))
 left_here place bs h =
     let size = size_at bs in
     let tail = drop 4 bs in
     let n = length (take size tail) in
     let whole : take n tail ≡ take size tail = ap (λ m. take m tail) (length-take size tail) ∙ take_min size tail in
     let bytes : take (4 + n) bs ≡ take 4 bs ++ take size tail = take-add 4 n bs ∙ ap (λ l. take 4 bs ++ l) whole in
-    let long : length (take (4 + n) bs) ≡ 4 + n = rw length-take (omega (arith, length-take size tail, length-drop 4 bs)) in
-    rw long (rw bytes (rw (next_place place size tail) (left_next place bs h)))
+    let behind : place + 4 + size ≡ place + (4 + size) = omega arith in
+    rw bytes (rw behind (left_next place bs h))
 
 -- the same, as the code takes it off
-pub left_is : (place size kind : ℕ) (bs tail payload rest : List ℕ) → Headed bs size kind tail → payload ≡ take (min size (length tail)) tail → rest ≡ drop (min size (length tail)) tail → left place bs ≡ record { place = place; bytes = take (4 + length payload) bs; size = size; kind = kind; payload = payload } ∷ left (place + length (take (4 + length payload) bs)) rest
-left_is place size kind bs tail payload rest k p r =
-    let payload_is : payload ≡ take size tail = p ∙ take_min size tail in
-    let rest_is : rest ≡ drop size tail = r ∙ drop_min size tail in
-    rw (payload_is, rest_is, k.rest, k.sized, k.kinded) (left_here place bs k.long)
+pub left_is : (place size kind : ℕ) (bs tail payload : List ℕ) → Headed bs size kind tail → payload ≡ take size tail → left place bs ≡ record { place = place; bytes = take (4 + length payload) bs; size = size; kind = kind; payload = payload } ∷ left (place + 4 + size) (drop size tail)
+left_is place size kind bs tail payload k p = rw (p, k.rest, k.sized, k.kinded) (left_here place bs k.long)
 
 pub verdict_is : (image : List ℕ) → length image ≤ 65536 → records_verdict (records image) ≡ card_verdict image
 verdict_is image h = let e : ltb 65536 (length image) ≡ false = le-ltb _ _ h in rw e

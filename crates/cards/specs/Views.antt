@@ -1,5 +1,5 @@
 -- The code's views of the parts of an image, as the format's definitions have them.
-use Rattle.std.specs.Prelude.{ℕ, cond, List, Ok, Err, Result, ◌==◌}
+use Rattle.std.specs.Prelude.{ℕ, ◌+◌, cond, List, drop, Ok, Err, Result, ◌==◌}
 use Rattle.terms.specs.declared.refusals.Refusal.{Refusal}
 use Rattle.terms.specs.declared.refusals.Refusal.TheVariants.{UnknownKind}
 use Rattle.terms.specs.Tables.{Stored}
@@ -21,7 +21,7 @@ as_record r = record { place = r.place; bytes = r.bytes.now; size = r.size; kind
 
 -- the records that an iterator has left
 abbrev pub records_left : Records → List CardRecord
-records_left rs = left rs.place rs.rest.now
+records_left rs = left (rs.place + rs.over) (drop rs.over rs.bytes.now)
 
 abbrev pub as_raw : TableBytes → RawTable
 as_raw t = record { whole = t.whole.now; number = t.number; columns = t.columns; bytes = t.bytes.now }

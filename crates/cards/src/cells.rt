@@ -56,7 +56,7 @@ impl MarkedCells<'_> {
 fn cell_right(absent: bool, word: [u8; 4]) -> bool
     ensures { result ≡ (not absent || word_of word == 0) }
 {
-    !absent || word == [0; 4]
+    !absent || u32::from_le_bytes(word) == 0
 }
 
 fn read_cell(absent: bool, word: [u8; 4]) -> Cell

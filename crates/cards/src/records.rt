@@ -15,12 +15,15 @@ pub(crate) struct Record<'a> {
     pub(crate) payload: &'a [u8],
 }
 
-// What is left of an image, and where it stands there.
+// What is left of an image, and where it stands there; the first `over` of the bytes are the payload of the record before.
+// The next call passes over them: so the test for the image's end is no step from one record's place to the next one's, and a
+// walk over many records does not wait for it.
 #[derive(Drop)]
 pub(crate) struct Records<'a> {
-    rest: &'a [u8],
+    bytes: &'a [u8],
     place: usize,
-    ghost fits: { place + length rest.now < 2 ^ 64 },
+    over: usize,
+    ghost fits: { place + length bytes.now < 2 ^ 64 },
 }
 
 impl<'a> Iterator for Records<'a> {
@@ -34,15 +37,19 @@ impl<'a> Iterator for Records<'a> {
     ghost remaining = { item_count records_left };
 
     fn next(&mut self) -> Option<Record<'a>> {
-        let head = record_head(self.rest)?;
-        let (payload, rest) = head.tail.split_at(head.size.min(head.tail.len()));
-        let bytes = &self.rest[..4 + payload.len()];
-        let place = self.place;
-        self.place += bytes.len();
-        self.rest = rest;
+        if self.over > self.bytes.len() {
+            return None;
+        }
+        let rest = &self.bytes[self.over..];
+        let head = record_head(rest)?;
+        let payload = &head.tail[..head.size.min(head.tail.len())];
+        let place = self.place + self.over;
+        self.place = place + 4;
+        self.bytes = head.tail;
+        self.over = head.size;
         Some(Record {
             place,
-            bytes,
+            bytes: &rest[..4 + payload.len()],
             size: head.size,
             kind: head.kind,
             payload,
@@ -58,8 +65,9 @@ impl<'a> Records<'a> {
         ensures { records_left result ≡ records image.now }
     {
         Records {
-            rest: image,
+            bytes: image,
             place: 0,
+            over: 0,
         }
     }
 }
