@@ -48,7 +48,7 @@ impl PlainTable {
                 table: number,
                 row,
             })?;
-            cells.extend(fetched.into_iter().take(shape.columns as usize))?;
+            cells.extend_from_slice(&fetched[..shape.columns as usize])?;
         }
         Ok(Some(PlainTable { shape, cells }))
     }

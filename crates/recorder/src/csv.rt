@@ -29,11 +29,14 @@ pub(crate) enum CsvError {
 }
 
 pub(crate) fn read_csv(heap: Global, text: &str) -> Result<PlainTable, CsvError> {
-    let columns = text.lines().next().map_or(0, field_count);
     let mut cells = Vec::new(heap);
+    let mut columns = 0;
+    let mut rows = 0;
     for (line, fields) in (1..).zip(text.lines()) {
-        push_fields(&mut cells, line, fields)?;
-        let fields = field_count(fields);
+        let fields = push_fields(&mut cells, line, fields)?;
+        if line == 1 {
+            columns = fields;
+        }
         if fields != columns {
             return Err(CsvError::UnequalLine {
                 line,
@@ -41,8 +44,8 @@ pub(crate) fn read_csv(heap: Global, text: &str) -> Result<PlainTable, CsvError>
                 columns,
             });
         }
+        rows = line;
     }
-    let rows = text.lines().count();
     match u8::try_from(columns) {
         Ok(columns) if is_column(columns) => Ok(PlainTable {
             shape: Shape { columns, rows },
@@ -52,17 +55,15 @@ pub(crate) fn read_csv(heap: Global, text: &str) -> Result<PlainTable, CsvError>
     }
 }
 
-fn field_count(line: &str) -> usize {
-    line.split(',').count()
-}
-
-// Puts the fields of the line with a number behind the cells before it.
-fn push_fields(cells: &mut Vec<Cell>, line: usize, fields: &str) -> Result<(), CsvError> {
+// Puts the fields of the line with a number behind the cells before it, and answers how many they are.
+fn push_fields(cells: &mut Vec<Cell>, line: usize, fields: &str) -> Result<usize, CsvError> {
+    let mut last = 0;
     for (field, text) in (1..).zip(fields.split(',')) {
         let cell = read_field(text).map_err(|_| CsvError::BadField { line, field })?;
         cells.push(cell)?;
+        last = field;
     }
-    Ok(())
+    Ok(last)
 }
 
 fn read_field(text: &str) -> Result<Cell, ParseIntError> {
