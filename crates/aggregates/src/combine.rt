@@ -26,10 +26,10 @@ impl<C: Combine> AggregateFunction for C {
     }
 
     fn step(total: Option<i64>, cell: Cell) -> Option<i64> {
-        match (total, cell.map(i64::from)) {
+        match (total, cell) {
             (total, None) => total,
-            (None, first) => first,
-            (Some(so_far), Some(next)) => Some(C::combine(so_far, next)),
+            (None, Some(first)) => Some(i64::from(first)),
+            (Some(so_far), Some(next)) => Some(C::combine(so_far, i64::from(next))),
         }
     }
 
