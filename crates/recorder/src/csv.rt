@@ -33,7 +33,9 @@ pub(crate) fn read_csv(heap: Global, text: &str) -> Result<PlainTable, CsvError>
     let mut columns = 0;
     let mut rows = 0;
     for (line, fields) in (1..).zip(text.lines()) {
-        let fields = push_fields(&mut cells, line, fields)?;
+        let before = cells.len();
+        push_fields(&mut cells, line, fields)?;
+        let fields = cells.len().saturating_sub(before);
         if line == 1 {
             columns = fields;
         }
@@ -55,15 +57,13 @@ pub(crate) fn read_csv(heap: Global, text: &str) -> Result<PlainTable, CsvError>
     }
 }
 
-// Puts the fields of the line with a number behind the cells before it, and answers how many they are.
-fn push_fields(cells: &mut Vec<Cell>, line: usize, fields: &str) -> Result<usize, CsvError> {
-    let mut last = 0;
+// Puts the fields of the line with a number behind the cells before it.
+fn push_fields(cells: &mut Vec<Cell>, line: usize, fields: &str) -> Result<(), CsvError> {
     for (field, text) in (1..).zip(fields.split(',')) {
         let cell = read_field(text).map_err(|_| CsvError::BadField { line, field })?;
         cells.push(cell)?;
-        last = field;
     }
-    Ok(last)
+    Ok(())
 }
 
 fn read_field(text: &str) -> Result<Cell, ParseIntError> {
