@@ -15,9 +15,9 @@ pub(crate) struct Record<'a> {
     pub(crate) payload: &'a [u8],
 }
 
-// What is left of an image, and where it stands there; the first `over` of the bytes are the payload of the record before.
-// The next call passes over them: so the test for the image's end is no step from one record's place to the next one's, and a
-// walk over many records does not wait for it.
+// What is left of an image: bytes, which stand at `place` there. They begin with the payload of the record before, which has
+// `over` bytes, or as many as there are; the next call passes over it. So the place of a record does not hang on the
+// test for the image's end, and a walk over many records does not wait for that.
 #[derive(Drop)]
 pub(crate) struct Records<'a> {
     bytes: &'a [u8],
